@@ -1,0 +1,124 @@
+-- The theorems about the definitions, for the auditor: each is a statement over specs/ and a citation of its proof.
+-- They say that the tests agree with the propositions, that the computed definitions mean what the papers say, and that the owner's
+-- demands 2 and 3 hold for all patterns and all edits with from ≤ to ≤ length s.
+use mathlib.Core.Bool.{true}
+use mathlib.Core.List.{List, [], _∷_, _++_}
+use mathlib.Core.Logic.{_↔_}
+use mathlib.Core.Path.{_≡_, refl, sym}
+use Prim.Native.Nat.{ℕ, _+_, _-_, _*_, _^_, _≤_, _<_}
+use native.Mathlib.Omega.{arith}
+use lib.ListN.{length, take, drop, getD, length-drop}
+use Rattle.words.specs.Order.{Less, less, Lyndon, lyndon}
+use Rattle.words.specs.Factors.{Factorisation, factors, Group, groupsFrom}
+use Rattle.words.specs.Tables.{LyndonAt, longestAt, lyndonArray, lastFactor, lastFactors, longest, longestStarts, longestWord, groups}
+use Rattle.words.specs.Rotation.{rotation, leastRotation}
+use Rattle.words.specs.Tree.{split, treeNodes, Node}
+use Rattle.words.specs.Edit.{edited, answer, bits}
+use Rattle.words.specs.Demand.{Member, DemandTwo, DemandThree}
+use Rattle.words.proofs.Order.{less-true, true-less}
+use Rattle.words.proofs.Lyndon.{lyndon-true, true-lyndon}
+use Rattle.words.proofs.Factors.{Within, within, factorisation, factors-falling, join-factors, longest-prefix-max}
+use Rattle.words.proofs.Groups.{Packed, packed, packed-only}
+use Rattle.words.proofs.Longest as longest-laws
+use Rattle.words.proofs.Substrings as substrings
+use Rattle.words.proofs.Tables as tables
+use Rattle.words.proofs.Rotation as rotations
+use Rattle.words.proofs.RotationGroups as rotation-groups
+use Rattle.words.proofs.Tree as trees
+use Rattle.words.proofs.Fresh as fresh
+use Rattle.words.proofs.Edit as edits
+
+-- the tests agree with the propositions
+pub less-test : (x y : List ℕ) → Less x y ↔ (less x y ≡ true)
+less-test x y = (true-less x y, less-true x y)
+
+pub lyndon-test : (w : List ℕ) → Lyndon w ↔ (lyndon w ≡ true)
+lyndon-test w = (true-lyndon w, lyndon-true w)
+
+-- factors: existence and uniqueness
+pub factorisation-unique : (s : List ℕ) (fs : List (List ℕ)) → Factorisation s fs ↔ (fs ≡ factors s)
+factorisation-unique = factorisation
+
+pub demand-two : (s : List ℕ) → DemandTwo s (factors s)
+demand-two s = record { qualities = factorisation s (factors s) .1 refl; only = λ gs h. factorisation s gs .0 h }
+
+-- groups: spelled out they are the factors, powers are at least 1, and neighbouring groups have different words; nothing else is so
+pub groups-maximal : (i : ℕ) (fs : List (List ℕ)) (gs : List Group) → Packed i fs gs ↔ (gs ≡ groupsFrom i fs)
+groups-maximal i fs gs = (packed-only, λ e. rw e (packed i fs))
+
+-- each Lyndon substring lies within one factor
+pub lyndon-within : (s a y c : List ℕ) → s ≡ a ++ (y ++ c) → Lyndon y → Within (factors s) a y c
+lyndon-within s a y c e h = within (factors s) (factors-falling s) a y c h (rw (join-factors s) e)
+
+-- the longest Lyndon substrings are exactly the longest factors, at their places
+pub longest-is-factor : (s : List ℕ) (i : ℕ) → LyndonAt s (longest s) i ↔ longest-laws.FactorAt s (longest s) i
+longest-is-factor = longest-laws.longest-factors
+
+pub longest-most : (s : List ℕ) (l i : ℕ) → LyndonAt s l i → l ≤ longest s
+longest-most = substrings.longest-bound
+
+pub longest-starts : (s : List ℕ) (i : ℕ) → Member i (longestStarts s) ↔ LyndonAt s (longest s) i
+longest-starts = substrings.longest-listed
+
+pub longest-first : (s : List ℕ) → 0 < length s
+    → Member (longestWord s .0) (longestStarts s) × ((i : ℕ) → Member i (longestStarts s) → longestWord s .0 ≤ i) × (longestWord s .1 ≡ longest s)
+longest-first = longest-laws.longest-word
+
+-- the reach table: its entry is the longest Lyndon substring at i, the first factor of the suffix; the chain gives the suffix's factors
+pub lyndon-array-entry : (s : List ℕ) (i : ℕ) → i < length s → getD (lyndonArray s) i 0 ≡ longestAt s i
+lyndon-array-entry = tables.lyndon-array-entry
+
+pub lyndon-array-word : (s : List ℕ) (i : ℕ) → i < length s → LyndonAt s (longestAt s i) i
+lyndon-array-word s i h = record { fits = tables.longest-at-fits s i h; word = tables.longest-at-word s i h }
+
+pub lyndon-array-most : (s : List ℕ) (l i : ℕ) → LyndonAt s l i → l ≤ longestAt s i
+lyndon-array-most = tables.longest-at-most
+
+pub lyndon-array-chain : (s : List ℕ) (i : ℕ) → i < length s
+    → factors (drop i s) ≡ take (longestAt s i) (drop i s) ∷ factors (drop (i + longestAt s i) s)
+lyndon-array-chain = tables.chain-suffix
+
+-- the prefix table: its entry is the length of the prefix's last factor; the chain gives the prefix's factors
+pub last-factors-entry : (s : List ℕ) (i : ℕ) → i < length s → getD (lastFactors s) i 0 ≡ lastFactor s (i + 1)
+last-factors-entry = tables.last-factors-entry
+
+pub last-factors-chain : (s : List ℕ) (q : ℕ) → 0 < q → q ≤ length s
+    → factors (take q s) ≡ factors (take (q - lastFactor s q) s) ++ (take (lastFactor s q) (drop (q - lastFactor s q) s) ∷ [])
+last-factors-chain = tables.chain-prefix
+
+-- the phase mark: no rotation is smaller, none that starts before is as small, and the groups of s s show it
+pub least-rotation-least : (s : List ℕ) (j : ℕ) → j < length s → ¬ Less (rotation s j) (rotation s (leastRotation s))
+least-rotation-least = rotations.least-rotation-least
+
+pub least-rotation-first : (s : List ℕ) (j : ℕ) → j < leastRotation s → Less (rotation s (leastRotation s)) (rotation s j)
+least-rotation-first = rotations.least-rotation-first
+
+pub least-rotation-group : (s : List ℕ) (g : Group) → 0 < length s → rotation-groups.FirstOver (length s) (groups (s ++ s)) g
+    → leastRotation s ≡ g .start
+least-rotation-group = rotation-groups.least-rotation-group
+
+-- the tree: its rule, its number of nodes, and each node a Lyndon word
+pub tree-rule : (i : ℕ) (w : List ℕ) → 1 < length w
+    → treeNodes i w ≡ record { start = i; size = length w } ∷ (treeNodes i (take (split w) w) ++ treeNodes (i + split w) (drop (split w) w))
+tree-rule = trees.tree-node
+
+pub tree-longest : (w : List ℕ) (k : ℕ) → 1 < length w → Lyndon (drop (split w) w) × (0 < k → Lyndon (drop k w) → split w ≤ k)
+tree-longest w k h = (trees.split-right w h, trees.split-longest w k)
+
+pub tree-count : (i : ℕ) (w : List ℕ) → Lyndon w → length (treeNodes i w) + 1 ≡ 2 * length w
+tree-count i w h = trees.tree-count i w (h .some)
+
+pub tree-words : (w : List ℕ) → Lyndon w → (k : ℕ) (d : Node) → k < length (treeNodes 0 w)
+    → LyndonAt w (getD (treeNodes 0 w) k d .size) (getD (treeNodes 0 w) k d .start)
+tree-words = trees.tree-words
+
+-- the binary digits
+pub bits-enough : (m : ℕ) → m < 2 ^ bits m
+bits-enough = fresh.bits-below
+
+pub bits-fewest : (m d : ℕ) → m < 2 ^ d → bits m ≤ d
+bits-fewest = fresh.bits-least
+
+-- the answer to an edit
+pub demand-three : (s : List ℕ) (from to : ℕ) (b : List ℕ) → from ≤ to → to ≤ length s → DemandThree s from to b (answer s from to b)
+demand-three = edits.demand-three

@@ -1,0 +1,43 @@
+-- The order of strings, and Lyndon words. A string is a list of numbers; a byte is a number below 256.
+-- Each proposition stands beside its test, and proofs/Theorems proves that they agree.
+use mathlib.Core.Bool.{Bool, true, false, _&&_, _||_}
+use mathlib.Core.List.{List, [], _∷_}
+use mathlib.Core.Logic.{_⊎_}
+use mathlib.Core.Path.{_≡_}
+use Prim.Native.Nat.{ℕ, _<_}
+use lib.Dec.{ltb, eqb}
+use lib.ListN.{length, drop}
+use Rattle.words.specs.Bounded.{every}
+
+-- Smaller: the smaller symbol at the first difference, or a proper prefix of the longer string.
+abbrev pub Less : List ℕ → List ℕ → Type 0
+Less [] [] = ⊥
+Less [] (y ∷ ys) = Unit {0}
+Less (x ∷ xs) [] = ⊥
+Less (x ∷ xs) (y ∷ ys) = (x < y) ⊎ ((x ≡ y) × Less xs ys)
+
+abbrev pub less : List ℕ → List ℕ → Bool
+less [] [] = false
+less [] (y ∷ ys) = true
+less (x ∷ xs) [] = false
+less (x ∷ xs) (y ∷ ys) =
+    let rest = less xs ys in
+    let later = eqb x y && rest in
+    ltb x y || later
+
+-- The same string.
+abbrev pub same : List ℕ → List ℕ → Bool
+same [] [] = true
+same [] (y ∷ ys) = false
+same (x ∷ xs) [] = false
+same (x ∷ xs) (y ∷ ys) =
+    let rest = same xs ys in
+    eqb x y && rest
+
+-- Lyndon word: nonempty, and strictly smaller than each of its nonempty proper suffixes.
+pub record Lyndon (w : List ℕ) : Type 0 where
+  pub some : 0 < length w
+  pub least : (k : ℕ) → 0 < k → k < length w → Less w (drop k w)
+
+abbrev pub lyndon : List ℕ → Bool
+lyndon w = ltb 0 (length w) && every (λ k. eqb k 0 || less w (drop k w)) (length w)
