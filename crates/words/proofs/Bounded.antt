@@ -1,15 +1,11 @@
 -- What the searches of `specs/Bounded` find, and what the lists made by them hold.
 use mathlib.Core.Bool.{Bool, true, false, cond, _&&_}
-use mathlib.Core.List.{List, [], _∷_, _++_}
-use mathlib.Core.Logic.{_⊎_, inl, inr, _↔_}
-use mathlib.Core.Path.{_≡_, refl, sym, ap}
-use Prim.Native.Nat.{ℕ, zero, suc, _+_, _≤_, _<_}
-use native.Mathlib.Nat.{le-of-suc-le-suc, not-suc-le-zero}
+use mathlib.Core.Logic.{_⊎_, inl, inr}
+use mathlib.Core.Path.{_≡_, refl, ap}
+use Prim.Native.Nat.{ℕ, zero, suc, _≤_, _<_}
 use native.Mathlib.Omega.{arith}
 use lib.ListN.{length, getD}
-use borrow.Author.Tests.{eqb-true, eqb-false}
-use Rattle.words.specs.Bounded.{every, smallest, largest, table, select, passing}
-use Rattle.words.specs.Demand.{Member}
+use Rattle.words.specs.Bounded.{every, smallest, largest, table}
 
 -- a ≤ b or b < a, as a choice that can be taken
 pub le-or-lt : (a b : ℕ) → (a ≤ b) ⊎ (b < a)

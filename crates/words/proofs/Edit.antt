@@ -65,7 +65,7 @@ kept-of s t q e = largest-is (λ c. leb (startAt fs c) q && sameAll (take c fs) 
         let n = ap (λ r. length (join r)) (all-same (take j fs) (take j gs) c) in
         omega (arith, ending-most q j fs (omega arith) d, ending-most q j gs (omega arith) (omega arith)))
 
-append-cancel : (p x y : List (List ℕ)) → p ++ x ≡ p ++ y → x ≡ y
+pub append-cancel : (p x y : List (List ℕ)) → p ++ x ≡ p ++ y → x ≡ y
 append-cancel p x y e = sym (drop-append-seam p x) ∙ ap (drop (length p)) e ∙ drop-append-seam p y
 
 module _ (s : List ℕ) (from to : ℕ) (b : List ℕ) (h : from ≤ to) (k : to ≤ length s) where

@@ -1,19 +1,17 @@
 -- F1 to F4: a Lyndon substring lies within one factor, a pattern has exactly one factorisation, and `factors` gives it.
 -- `Falling` is the working form of the first two qualities: Lyndon words, each at least all later ones.
-use mathlib.Core.Bool.{Bool, true, false}
 use mathlib.Core.List.{List, [], _∷_, _++_, append-assoc, append-nil}
-use mathlib.Core.Logic.{_⊎_, inl, inr, _↔_}
+use mathlib.Core.Logic.{_↔_}
 use mathlib.Core.Path.{_≡_, refl, sym, ap, _∙_}
 use Prim.Native.Nat.{ℕ, zero, suc, _+_, _≤_, _<_}
 use native.Mathlib.Omega.{arith}
 use lib.ListN.{length, take, drop, getD, length-append, take-append-drop, length-drop, length-take}
-use lib.Seq.{take-append-seam, drop-append-seam, take-all}
-use Rattle.words.specs.Bounded.{largest}
+use lib.Seq.{take-append-seam}
 use Rattle.words.specs.Order.{Less, Lyndon, lyndon}
 use Rattle.words.specs.Factors.{join, Factorisation, longestPrefix, factorsUpTo, factors}
-use Rattle.words.proofs.Bounded.{le-or-lt, largest-le, largest-max, largest-passes, true-false}
-use Rattle.words.proofs.Order.{Le, Three, smaller, equal, greater, three, less-irrefl, less-le-less, le-less-less, le-trans, le-prefix, le-refl}
-use Rattle.words.proofs.Lyndon.{Some, some-length, length-some, some-left, some-right, Cut, long, short, cut, cut-equal, lyndon-some, lyndon-less, lyndon-le, lyndon-one, lyndon-join, lyndon-true, true-lyndon}
+use Rattle.words.proofs.Bounded.{largest-le, largest-max, largest-passes}
+use Rattle.words.proofs.Order.{Le, less-irrefl, less-le-less, le-trans, le-prefix}
+use Rattle.words.proofs.Lyndon.{Some, some-length, some-left, Cut, long, short, cut, cut-equal, lyndon-some, lyndon-less, lyndon-le, lyndon-one, lyndon-join, lyndon-true, true-lyndon}
 
 abbrev pub AllLe : List ℕ → List (List ℕ) → Type 0
 AllLe m [] = Unit {0}

@@ -15,5 +15,7 @@ pub mod Tree
 pub mod EditParts
 pub mod Fresh
 pub mod Edit
+pub mod Middle
+pub mod Only
 pub mod Theorems
 pub mod Sheet

@@ -1,19 +1,17 @@
 -- L1 and L2: a Lyndon word is smaller than its suffixes by a difference, and two of them in rising order join to one.
 -- Words are cut as w ≡ u ++ v; `Some` is "nonempty" and `Cut` says how two cuts of one word lie.
-use mathlib.Core.Bool.{Bool, true, false, _&&_, _||_}
-use mathlib.Core.List.{List, [], _∷_, _++_, append-assoc, append-nil}
-use mathlib.Core.Logic.{_⊎_, inl, inr}
+use mathlib.Core.Bool.{Bool, true, false, _||_}
+use mathlib.Core.List.{List, [], _∷_, _++_, append-nil}
 use mathlib.Core.Path.{_≡_, refl, sym, ap}
-use Prim.Native.Nat.{ℕ, zero, suc, _+_, _≤_, _<_}
+use Prim.Native.Nat.{ℕ, zero, suc, _+_, _<_}
 use native.Mathlib.Omega.{arith}
 use lib.ListN.{length, take, drop, length-append, take-append-drop, length-drop, length-take}
-use lib.Seq.{drop-append-seam, take-append-seam}
+use lib.Seq.{drop-append-seam}
 use lib.Dec.{ltb, eqb}
-use borrow.Author.Tests.{ltb-true, lt-ltb, eqb-true, eqb-false, ne-eqb, eq-eqb}
-use Rattle.words.specs.Bounded.{every}
+use borrow.Author.Tests.{ltb-true, lt-ltb, eqb-true}
 use Rattle.words.specs.Order.{Less, less, Lyndon, lyndon}
-use Rattle.words.proofs.Bounded.{le-or-lt, and-true, true-false, every-true, true-every}
-use Rattle.words.proofs.Order.{Differ, Le, How, prefix, differ, less-how, less-irrefl, less-trans, less-front, less-differ, differ-append, differ-less, less-le, le-refl, le-prefix, le-trans, less-true, true-less}
+use Rattle.words.proofs.Bounded.{and-true, true-false, every-true, true-every}
+use Rattle.words.proofs.Order.{Differ, Le, How, prefix, differ, less-how, less-trans, less-front, less-differ, differ-append, differ-less, less-le, le-refl, less-true, true-less}
 
 abbrev pub Some : List ℕ → Type 0
 Some [] = ⊥

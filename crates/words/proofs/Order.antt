@@ -1,16 +1,16 @@
 -- O1 to O5: the order is strict, total and kept by a common front; a difference is kept by whatever follows.
 -- `Differ` is "smaller by a difference", the part of `Less` that appending does not undo.
 use mathlib.Core.Bool.{Bool, true, false, _&&_, _||_}
-use mathlib.Core.List.{List, [], _∷_, _++_, append-assoc}
+use mathlib.Core.List.{List, [], _∷_, _++_}
 use mathlib.Core.Logic.{_⊎_, inl, inr}
 use mathlib.Core.Path.{_≡_, refl, sym, ap}
-use Prim.Native.Nat.{ℕ, zero, suc, _+_, _≤_, _<_}
+use Prim.Native.Nat.{ℕ, _≤_, _<_}
 use native.Mathlib.Omega.{arith}
 use lib.ListN.{length, length-append}
 use lib.Dec.{ltb, eqb}
-use borrow.Author.Tests.{ltb-true, ltb-false, eqb-true, eqb-false, lt-ltb, le-ltb, eq-eqb, ne-eqb}
+use borrow.Author.Tests.{ltb-true, eqb-true, lt-ltb, eq-eqb}
 use Rattle.words.specs.Order.{Less, less, same}
-use Rattle.words.proofs.Bounded.{le-or-lt, le-cases, and-true, true-false}
+use Rattle.words.proofs.Bounded.{le-or-lt, and-true, true-false}
 
 abbrev pub Differ : List ℕ → List ℕ → Type 0
 Differ [] y = ⊥

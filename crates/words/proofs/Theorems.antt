@@ -4,20 +4,19 @@
 use mathlib.Core.Bool.{true}
 use mathlib.Core.List.{List, [], _∷_, _++_}
 use mathlib.Core.Logic.{_↔_}
-use mathlib.Core.Path.{_≡_, refl, sym}
+use mathlib.Core.Path.{_≡_, refl}
 use Prim.Native.Nat.{ℕ, _+_, _-_, _*_, _^_, _≤_, _<_}
-use native.Mathlib.Omega.{arith}
-use lib.ListN.{length, take, drop, getD, length-drop}
+use lib.ListN.{length, take, drop, getD}
 use Rattle.words.specs.Order.{Less, less, Lyndon, lyndon}
 use Rattle.words.specs.Factors.{Factorisation, factors, Group, groupsFrom}
 use Rattle.words.specs.Tables.{LyndonAt, longestAt, lyndonArray, lastFactor, lastFactors, longest, longestStarts, longestWord, groups}
 use Rattle.words.specs.Rotation.{rotation, leastRotation}
 use Rattle.words.specs.Tree.{split, treeNodes, Node}
-use Rattle.words.specs.Edit.{edited, answer, bits}
+use Rattle.words.specs.Edit.{Answer, answer, bits}
 use Rattle.words.specs.Demand.{Member, DemandTwo, DemandThree}
 use Rattle.words.proofs.Order.{less-true, true-less}
 use Rattle.words.proofs.Lyndon.{lyndon-true, true-lyndon}
-use Rattle.words.proofs.Factors.{Within, within, factorisation, factors-falling, join-factors, longest-prefix-max}
+use Rattle.words.proofs.Factors.{Within, within, factorisation, factors-falling, join-factors}
 use Rattle.words.proofs.Groups.{Packed, packed, packed-only}
 use Rattle.words.proofs.Longest as longest-laws
 use Rattle.words.proofs.Substrings as substrings
@@ -27,6 +26,7 @@ use Rattle.words.proofs.RotationGroups as rotation-groups
 use Rattle.words.proofs.Tree as trees
 use Rattle.words.proofs.Fresh as fresh
 use Rattle.words.proofs.Edit as edits
+use Rattle.words.proofs.Only as only-laws
 
 -- the tests agree with the propositions
 pub less-test : (x y : List ℕ) → Less x y ↔ (less x y ≡ true)
@@ -122,3 +122,8 @@ bits-fewest = fresh.bits-least
 -- the answer to an edit
 pub demand-three : (s : List ℕ) (from to : ℕ) (b : List ℕ) → from ≤ to → to ≤ length s → DemandThree s from to b (answer s from to b)
 demand-three = edits.demand-three
+
+-- no other answer meets it
+pub demand-three-only : (s : List ℕ) (from to : ℕ) (b : List ℕ) → from ≤ to → to ≤ length s → (a : Answer) → DemandThree s from to b a
+    → a ≡ answer s from to b
+demand-three-only = only-laws.demand-three-only

@@ -1,0 +1,3 @@
+pub mod Copy
+pub mod Along
+pub mod Starts

@@ -1,0 +1,55 @@
+// The groups of a pattern from a place on, counted and written to a row of numbers, and its last factor.
+// Each is one pass by Duval's scan; that the row is long enough is the caller's concern.
+use scan::next_group;
+ghost use mathlib.Core.Path.{_≡_};
+ghost use Prim.Native.Nat.{_*_, _≤_};
+ghost use lib.ListN.{length};
+ghost use Rattle.rows.specs.Row.{written};
+ghost use Rattle.words.specs.Factors.{factors, groupNumbers};
+ghost use Rattle.words.specs.Tables.{lastLength, suffixGroups};
+
+// The number of groups from a place on.
+pub fn count_groups(s: &[u8], from: usize) -> usize
+    requires { ⌜ from ≤ length (now s) ⌝ }
+    ensures { λ r. ⌜ r ≡ length (suffixGroups (now (s .entry)) from) ⌝ }
+{
+    let mut count = 0;
+    let mut i = from;
+    while i < s.len() {
+        let g = next_group(s, i);
+        count += 1;
+        i += g.power * g.length;
+    }
+    count
+}
+
+// Writes the groups from a place on, three numbers each.
+pub fn write_groups(s: &[u8], from: usize, row: &mut [u16])
+    requires { ⌜ (length (now s) ≤ 65535) × (from ≤ length (now s)) × (3 * length (suffixGroups (now s) from) ≤ length (now row)) ⌝ }
+    ensures { λ _. ⌜ now (row .exit) ≡ written (groupNumbers (suffixGroups (now (s .entry)) from)) (now (row .entry)) ⌝ }
+{
+    let mut at = 0;
+    let mut start = from;
+    while start < s.len() {
+        let g = next_group(s, start);
+        row[at] = start as u16;
+        row[at + 1] = g.length as u16;
+        row[at + 2] = g.power as u16;
+        at += 3;
+        start += g.power * g.length;
+    }
+}
+
+// The length of the last factor of a pattern, 0 for the empty one.
+pub fn last_factor(s: &[u8]) -> usize
+    ensures { λ r. ⌜ r ≡ lastLength (factors (now (s .entry))) ⌝ }
+{
+    let mut last = 0;
+    let mut end = 0;
+    while end < s.len() {
+        let g = next_group(s, end);
+        last = g.length;
+        end += g.power * g.length;
+    }
+    last
+}

@@ -1,0 +1,60 @@
+-- `longest::measure` meets its contract: `best` is the longest of the groups before place i.
+use Prim.Native.Nat.{_-_}
+use lib.ListN.{length}
+use Rattle.scan.proofs.Next.{group-long}
+use Rattle.longest.proofs.Seen.{Measured, measured-none, measured-fits, measured-more, measured-all}
+use borrow.Author.Needs.{needs}
+use native.Mathlib.Omega.{arith}
+use Rattle.longest.proofs.measure.Statement.{statement}
+use Rattle.longest.proofs.measure.Tie as tie
+use Rattle.longest.proofs.measure.Reads as reads
+use Rattle.longest.proofs.measure.Lts as lts
+use Rattle.longest.proofs.better.Reads as better-reads
+use Rattle.scan.proofs.next_group.Reads as next-group-reads
+
+abbrev Inv-loop : tie.InvT-loop
+Inv-loop s best₀ i₀ best i = Measured s best i
+
+abbrev μ-loop : tie.MeasureT-loop
+μ-loop s best₀ i₀ best i = length s - i
+
+loop-holds : tie.Need-loop-holds Inv-loop μ-loop
+loop-holds c = measured-none (c .before .args .s .now)
+
+next-group-requires : tie.Need-next-group-requires Inv-loop μ-loop
+next-group-requires c κs = search needs
+
+better-requires : tie.Need-better-requires Inv-loop μ-loop
+better-requires c κs = omega (arith, measured-fits (c .before .before .loop .inv) (c .next-group .ensures))
+
+mul-i : tie.Need-mul-i Inv-loop μ-loop
+mul-i c = search needs
+
+add-i : tie.Need-add-i Inv-loop μ-loop
+add-i c = search needs
+
+loop-less : tie.Need-loop-less Inv-loop μ-loop
+loop-less c = omega (arith, group-long (c .before .before .next-group .ensures))
+
+loop-again : tie.Need-loop-again Inv-loop μ-loop
+loop-again c =
+    let g = c .before .before in
+    rw (c .before .better .ensures) (measured-more (g .before .before .loop .inv) (g .next-group .ensures))
+
+returns : tie.Need-returns Inv-loop μ-loop
+returns c = measured-all (c .before .before .before .args .s .now) (c .before .loop .inv) (search needs)
+
+pub measure-spec : {M : Type 1} → statement M
+measure-spec =
+    tie.close
+    (tie.spec
+    Inv-loop
+    μ-loop
+    loop-holds
+    next-group-requires
+    better-requires
+    mul-i
+    add-i
+    loop-less
+    loop-again
+    returns)

@@ -1,0 +1,193 @@
+-- What the calls that make a table, list the longest words, tell of a word, find the least rotation and list a tree make of the facts
+-- that their ways out show.
+use mathlib.Core.Bool.{Bool, true, false, not}
+use mathlib.Core.List.{List, [], _∷_, _++_, append-nil}
+use mathlib.Core.Logic.{_⊎_, inl, inr}
+use mathlib.Core.Path.{_≡_, refl, sym, ap, _∙_}
+use Prim.Native.Nat.{ℕ, zero, suc, _+_, _-_, _*_, _≤_, _<_}
+use native.Mathlib.Omega.{arith}
+use lib.Dec.{eqb}
+use lib.ListN.{length, take, drop, replicate, length-append}
+use lib.Seq.{take-all, take-at, take-length, take-append-seam, length-take-le}
+use borrow.Author.Tests.{eq-eqb, ne-eqb, lt-ltb, le-ltb}
+use Rattle.refusals.proofs.First.{First, none, holds, passes, first-is, too-long, not-long, too-short, not-short}
+use Rattle.refusals.specs.Refusals.{firstOf, unlessRefused, rowAfter, patternTooLong, wordTooLong, notLyndon, tooShort}
+use Rattle.rows.specs.Row.{written, writtenAt}
+use Rattle.scan.proofs.Next.{next-words}
+use Rattle.scan.proofs.Pass.{length-fits}
+use Rattle.scan.specs.Group.{NextGroup}
+use Rattle.words.proofs.Bounded.{le-cases}
+use Rattle.words.proofs.Factors.{longest-prefix-le, longest-prefix-max, longest-prefix-lyndon}
+use Rattle.words.proofs.Longest.{longest-word}
+use Rattle.words.proofs.Lyndon.{lyndon-true, true-lyndon, false-lyndon, length-some}
+use Rattle.words.proofs.Substrings.{factors-head, longest-listed}
+use Rattle.words.proofs.Tree.{tree-count, numbers-count}
+use Rattle.words.specs.Factors.{factors, Group, longestPrefix}
+use Rattle.words.specs.Order.{Lyndon, lyndon}
+use Rattle.words.specs.Rotation.{leastRotation}
+use Rattle.words.specs.Tables.{LyndonAt, lyndonStarts, longest, longestStarts, longestWord}
+use Rattle.words.specs.Tree.{treeNodes, nodeNumbers}
+use Rattle.lyndon.specs.Calls.{Fills, StartsListed, partUnless, wordPart, yesUnless, LyndonTold, RotationFound, TreeListed}
+use Rattle.lyndon.specs.declared.Filled.{Filled}
+use Rattle.lyndon.specs.declared.Verdict.{Verdict}
+use Rattle.lyndon.proofs.Outcome.{Refused, fills-refused, fills-accepted}
+
+-- a table of n entries, n the pattern's length
+module _ (s def row : List ℕ) (size : length def ≡ length s) (r : Filled) where
+  abbrev Made : List ℕ → Type 0
+  Made row′ = Fills (patternTooLong s ∷ tooShort (length def) (length row) ∷ []) def (length s) row row′ r
+
+  pub table-long : 4096 < length s → Refused r 1 → Made row
+  table-long h q = fills-refused (too-long s h) q
+
+  pub table-no-room : length s ≤ 4096 → length row < length s → Refused r 8 → Made row
+  table-no-room h l q = fills-refused (not-long s h (too-short (length def) (length row) (omega (arith, size)))) q
+
+  pub table-made : {row′ : List ℕ} → length s ≤ 4096 → length s ≤ length row → r .refusal ≡ 0 → r .count ≡ length s → row′ ≡ written def row → Made row′
+  table-made h l p q w = fills-accepted (not-long s h (not-short (length def) (length row) (omega (arith, size)) none)) p q w
+
+-- longest_words
+module _ (s row : List ℕ) where
+  pub starts-long : 4096 < length s → StartsListed s row row (record { refusal = 1; length = 0; count = 0 })
+  starts-long h =
+      let e = sym (first-is (too-long s {rs = tooShort (length (longestStarts s)) (length row) ∷ []} h)) in
+      record {
+        refusal = e;
+        length = ap (λ n. unlessRefused n (longest s)) e;
+        count = ap (λ n. unlessRefused n (length (longestStarts s))) e;
+        leaves = ap (λ n. rowAfter n (longestStarts s) row) e;
+      }
+
+  pub starts-short : length s ≤ 4096 → length row < length (longestStarts s) → StartsListed s row row (record { refusal = 8; length = 0; count = 0 })
+  starts-short h l =
+      let f : First (patternTooLong s ∷ tooShort (length (longestStarts s)) (length row) ∷ []) 8 =
+      not-long s h (too-short (length (longestStarts s)) (length row) l) in
+      let e = sym (first-is f) in
+      record {
+        refusal = e;
+        length = ap (λ n. unlessRefused n (longest s)) e;
+        count = ap (λ n. unlessRefused n (length (longestStarts s))) e;
+        leaves = ap (λ n. rowAfter n (longestStarts s) row) e;
+      }
+
+  pub starts-done : (l k : ℕ) {row′ : List ℕ} → length s ≤ 4096 → length (longestStarts s) ≤ length row → l ≡ longest s → k ≡ length (longestStarts s)
+      → row′ ≡ written (longestStarts s) row → StartsListed s row row′ (record { refusal = 0; length = l; count = k })
+  starts-done l k h m p q w =
+      let f : First (patternTooLong s ∷ tooShort (length (longestStarts s)) (length row) ∷ []) 0 =
+      not-long s h (not-short (length (longestStarts s)) (length row) m none) in
+      let e = sym (first-is f) in
+      record {
+        refusal = e;
+        length = p ∙ ap (λ n. unlessRefused n (longest s)) e;
+        count = q ∙ ap (λ n. unlessRefused n (length (longestStarts s))) e;
+        leaves = w ∙ ap (λ n. rowAfter n (longestStarts s) row) e;
+      }
+
+-- longest_word
+module _ (s : List ℕ) where
+  pub word-long : 4096 < length s → [] ≡ wordPart s
+  word-long h = ap (λ n. partUnless n (take (longestWord s .1) (drop (longestWord s .0) s))) (sym (first-is (too-long s {rs = []} h)))
+
+  pub word-part : length s ≤ 4096 → (a l : ℕ) → a ≡ longestWord s .0 → l ≡ longest s → take l (drop a s) ≡ wordPart s
+  unfolding longestWord
+  word-part h a l p q =
+      rw (p, q) (ap (λ n. partUnless n (take (longestWord s .1) (drop (longestWord s .0) s))) (sym (first-is (not-long s {rs = []} h none))))
+
+-- the word lies within the pattern
+pub word-within : (s : List ℕ) → longestWord s .0 + longest s ≤ length s
+unfolding longestWord longestStarts lyndonStarts longest
+word-within [] = omega arith
+word-within (x ∷ xs) = longest-listed (x ∷ xs) (longestWord (x ∷ xs) .0) .0 (longest-word (x ∷ xs) (omega arith) .0) .fits
+
+-- is_lyndon
+module _ (w : List ℕ) where
+  pub told-long : 4096 < length w → LyndonTold w (record { refusal = 1; yes = false })
+  told-long h =
+      let e = sym (first-is (too-long w {rs = []} h)) in
+      record { refusal = e; yes = ap (λ n. yesUnless n (lyndon w)) e }
+
+  pub told : length w ≤ 4096 → (b : Bool) → b ≡ lyndon w → LyndonTold w (record { refusal = 0; yes = b })
+  told h b q =
+      let e = sym (first-is (not-long w {rs = []} h none)) in
+      record { refusal = e; yes = q ∙ ap (λ n. yesUnless n (lyndon w)) e }
+
+  pub told-yes : {v : Verdict} → length w ≤ 4096 → LyndonTold w v → v .yes ≡ lyndon w
+  told-yes h t = t .yes ∙ ap (λ n. yesUnless n (lyndon w)) (first-is (not-long w {rs = []} h none))
+
+  pub empty-not-lyndon : length w ≡ 0 → false ≡ lyndon w
+  empty-not-lyndon e = sym (false-lyndon w (λ h. omega (arith, h .some)))
+
+  -- the first factor is the whole word
+  pub whole-lyndon : (size power : ℕ) → NextGroup w 0 size power → eqb size (length w) ≡ lyndon w
+  whole-lyndon size power g = at (le-cases (omega (arith, first, longest-prefix-le w)))
+    where
+      go : (e : ℕ) → 0 < e → (fs : List (List ℕ)) → factors w ≡ replicate e (take size w) ++ fs → longestPrefix w ≡ length (take size w)
+      go zero n fs q = absurd (omega arith)
+      go (suc e) n fs q = factors-head w (take size w) (replicate e (take size w) ++ fs) q .0
+
+      first : longestPrefix w ≡ size
+      first =
+          go power (g .some) (factors (drop (0 + power * size) w)) (next-words g)
+          ∙ length-take-le size w (omega (arith, length-fits g, g .fits))
+
+      at : (size ≡ length w) ⊎ (size < length w) → eqb size (length w) ≡ lyndon w
+      at (inl e) =
+          let h : Lyndon w = rw (first, take-all size w (omega arith)) at (longest-prefix-lyndon w (length-some w (omega (arith, g .factor)))) in
+          eq-eqb size (length w) e ∙ sym (true-lyndon w h)
+      at (inr l) =
+          ne-eqb size (length w) (λ e. omega arith)
+          ∙ sym (false-lyndon w (λ h. omega (arith, first, longest-prefix-max w w [] (sym (append-nil w)) h)))
+
+-- least_rotation
+module _ (s : List ℕ) where
+  pub rotation-long : 4096 < length s → RotationFound s (record { refusal = 1; start = 0 })
+  rotation-long h =
+      let e = sym (first-is (too-long s {rs = []} h)) in
+      record { refusal = e; start = ap (λ n. unlessRefused n (leastRotation s)) e }
+
+  pub rotation-found : length s ≤ 4096 → (k : ℕ) → k ≡ leastRotation s → RotationFound s (record { refusal = 0; start = k })
+  rotation-found h k q =
+      let e = sym (first-is (not-long s {rs = []} h none)) in
+      record { refusal = e; start = q ∙ ap (λ n. unlessRefused n (leastRotation s)) e }
+
+-- the pattern stands twice in the buffer's front
+module _ (s buffer : List ℕ) (last : List ℕ) (w : last ≡ written (s ++ s) buffer) where
+  abbrev twice : List ℕ
+  twice = take (2 * length s) last
+
+  pub twice-is : twice ≡ s ++ s
+  twice-is = rw w (take-at (s ++ s) (drop (length (s ++ s)) buffer) (2 * length s) (length-append s s ∙ omega arith))
+
+  pub twice-front : take (length s) twice ≡ s
+  twice-front = rw twice-is (take-append-seam s s)
+
+-- lyndon_tree
+module _ (w row : List ℕ) (r : Filled) where
+  pub tree-long : 256 < length w → Refused r 6 → TreeListed w row row r
+  tree-long h q = fills-refused (holds {r = wordTooLong w} (lt-ltb 256 (length w) h)) q
+
+  module _ (h : length w ≤ 256) where
+    pub tree-not-lyndon : lyndon w ≡ false → Refused r 7 → TreeListed w row row r
+    tree-not-lyndon e q =
+        fills-refused (passes {r = wordTooLong w} (le-ltb 256 (length w) h) (holds {r = notLyndon w} (rw e))) q
+
+    module _ (e : lyndon w ≡ true) where
+      numbers : length (nodeNumbers (treeNodes 0 w)) + 2 ≡ 4 * length w
+      numbers = omega (arith, numbers-count (treeNodes 0 w), tree-count 0 w (lyndon-true w e .some))
+
+      pub tree-short : length row < 2 * (2 * length w - 1) → Refused r 8 → TreeListed w row row r
+      tree-short l q =
+          fills-refused
+          (passes {r = wordTooLong w} (le-ltb 256 (length w) h)
+          (passes {r = notLyndon w} (rw e) (too-short (length (nodeNumbers (treeNodes 0 w))) (length row) (omega (arith, numbers))))) q
+
+      pub tree-done : {row′ : List ℕ} → 2 * (2 * length w - 1) ≤ length row → r .refusal ≡ 0 → r .count ≡ 2 * length w - 1
+          → row′ ≡ writtenAt 0 (nodeNumbers (treeNodes 0 (take (length w) w))) row → TreeListed w row row′ r
+      tree-done l p q n =
+          fills-accepted
+          (passes {r = wordTooLong w} (le-ltb 256 (length w) h)
+          (passes {r = notLyndon w} (rw e) (not-short (length (nodeNumbers (treeNodes 0 w))) (length row) (omega (arith, numbers)) none))) p
+          (omega (arith, tree-count 0 w (lyndon-true w e .some))) (rw (take-length w) at n)
+
+      pub tree-word : LyndonAt w (length w) 0
+      tree-word = record { fits = omega arith; word = rw (take-length w) (lyndon-true w e) }

@@ -1,0 +1,56 @@
+-- Which refusal is the first that holds, shown test by test in the order of the list.
+use mathlib.Core.Bool.{true, false}
+use mathlib.Core.List.{List, [], _∷_}
+use mathlib.Core.Path.{_≡_, refl}
+use Prim.Native.Nat.{ℕ, _≤_, _<_}
+use native.Mathlib.Omega.{arith}
+use lib.ListN.{length, take}
+use borrow.Author.Tests.{lt-ltb, le-ltb}
+use Rattle.refusals.specs.Refusals.{Refusal, firstOf, maxPattern, patternTooLong, pastEnd, notTable, tooShort}
+use Rattle.words.specs.Order.{same}
+
+pub data First : List Refusal → ℕ → Type 0 where
+  none : First [] 0
+  holds : {r : Refusal} {rs : List Refusal} → r .holds ≡ true → First (r ∷ rs) (r .number)
+  passes : {r : Refusal} {rs : List Refusal} {k : ℕ} → r .holds ≡ false → First rs k → First (r ∷ rs) k
+
+pub first-is : {rs : List Refusal} {k : ℕ} → First rs k → firstOf rs ≡ k
+first-is none = refl
+first-is (holds e) = rw e
+first-is (passes e f) = rw e (first-is f)
+
+pub first-holds : (r : Refusal) (rs : List Refusal) → r .holds ≡ true → firstOf (r ∷ rs) ≡ r .number
+first-holds r rs e = rw e
+
+pub first-passes : (r : Refusal) (rs : List Refusal) → r .holds ≡ false → firstOf (r ∷ rs) ≡ firstOf rs
+first-passes r rs e = rw e
+
+-- the tests as facts about numbers
+pub too-long : (s : List ℕ) {rs : List Refusal} → maxPattern < length s → First (patternTooLong s ∷ rs) 1
+too-long s h = holds (lt-ltb maxPattern (length s) h)
+
+pub not-long : (s : List ℕ) {rs : List Refusal} {k : ℕ} → length s ≤ maxPattern → First rs k → First (patternTooLong s ∷ rs) k
+not-long s h f = passes (le-ltb maxPattern (length s) h) f
+
+pub past-end : (s : List ℕ) (q : ℕ) {rs : List Refusal} → length s < q → First (pastEnd s q ∷ rs) 2
+past-end s q h = holds (lt-ltb (length s) q h)
+
+pub not-past : (s : List ℕ) (q : ℕ) {rs : List Refusal} {k : ℕ} → q ≤ length s → First rs k → First (pastEnd s q ∷ rs) k
+not-past s q h f = passes (le-ltb (length s) q h) f
+
+pub too-short : (needs room : ℕ) {rs : List Refusal} → room < needs → First (tooShort needs room ∷ rs) 8
+too-short needs room h = holds (lt-ltb room needs h)
+
+pub not-short : (needs room : ℕ) {rs : List Refusal} {k : ℕ} → needs ≤ room → First rs k → First (tooShort needs room ∷ rs) k
+not-short needs room h f = passes (le-ltb room needs h) f
+
+-- refusal 5, of a table with n entries
+module _ (table row : List ℕ) (n : ℕ) (size : length table ≡ n) where
+  pub table-short : {rs : List Refusal} → length row < n → First (notTable table row ∷ rs) 5
+  table-short h = holds {r = notTable table row} (rw (lt-ltb (length row) (length table) (omega (arith, size))))
+
+  pub table-wrong : {rs : List Refusal} → n ≤ length row → same (take n row) table ≡ false → First (notTable table row ∷ rs) 5
+  table-wrong h e = holds {r = notTable table row} (rw (le-ltb (length row) (length table) (omega (arith, size)), size, e))
+
+  pub table-right : {rs : List Refusal} {k : ℕ} → n ≤ length row → same (take n row) table ≡ true → First rs k → First (notTable table row ∷ rs) k
+  table-right h e f = passes {r = notTable table row} (rw (le-ltb (length row) (length table) (omega (arith, size)), size, e)) f

@@ -1,0 +1,68 @@
+-- The refusals: a number and a test each. A call has a list of them and refuses by the first that holds.
+use mathlib.Core.Bool.{Bool, cond, not, _||_}
+use mathlib.Core.List.{List, [], _∷_}
+use Prim.Native.Nat.{ℕ, zero, suc}
+use lib.Dec.{ltb}
+use lib.ListN.{length, take}
+use Rattle.rows.specs.Row.{written}
+use Rattle.words.specs.Edit.{edited}
+use Rattle.words.specs.Order.{lyndon, same}
+
+pub record Refusal : Type 0 where
+  pub number : ℕ
+  pub holds : Bool
+
+-- The number of the first refusal that holds, and 0 where none does.
+abbrev pub firstOf : List Refusal → ℕ
+firstOf [] = 0
+firstOf (r ∷ rs) =
+    let later = firstOf rs in
+    cond (r .holds) (r .number) later
+
+-- What a refusal of this number leaves of a value, and of a row to which a result is to be written; 0 refuses nothing.
+abbrev pub unlessRefused : ℕ → ℕ → ℕ
+unlessRefused zero value = value
+unlessRefused (suc k) value = 0
+
+abbrev pub rowAfter : ℕ → List ℕ → List ℕ → List ℕ
+rowAfter zero out row = written out row
+rowAfter (suc k) out row = row
+
+abbrev pub maxPattern : ℕ
+maxPattern = 4096
+
+abbrev pub maxBlock : ℕ
+maxBlock = 256
+
+abbrev pub maxTree : ℕ
+maxTree = 256
+
+abbrev pub patternTooLong : List ℕ → Refusal
+patternTooLong s = record { number = 1; holds = ltb maxPattern (length s) }
+
+-- A position past the end; a stretch that ends before its start or past the end.
+abbrev pub pastEnd : List ℕ → ℕ → Refusal
+pastEnd s q = record { number = 2; holds = ltb (length s) q }
+
+abbrev pub noStretch : List ℕ → ℕ → ℕ → Refusal
+noStretch s from to = record { number = 2; holds = ltb to from || ltb (length s) to }
+
+abbrev pub blockTooLong : List ℕ → Refusal
+blockTooLong b = record { number = 3; holds = ltb maxBlock (length b) }
+
+abbrev pub editedTooLong : List ℕ → ℕ → ℕ → List ℕ → Refusal
+editedTooLong s from to b = record { number = 4; holds = ltb maxPattern (length (edited s from to b)) }
+
+-- The row is shorter than the table, or one of its first entries differs.
+abbrev pub notTable : List ℕ → List ℕ → Refusal
+notTable table row = record { number = 5; holds = ltb (length row) (length table) || not (same (take (length table) row) table) }
+
+abbrev pub wordTooLong : List ℕ → Refusal
+wordTooLong w = record { number = 6; holds = ltb maxTree (length w) }
+
+abbrev pub notLyndon : List ℕ → Refusal
+notLyndon w = record { number = 7; holds = not (lyndon w) }
+
+-- There is room for fewer entries than the result needs.
+abbrev pub tooShort : ℕ → ℕ → Refusal
+tooShort needs room = record { number = 8; holds = ltb room needs }

@@ -1,0 +1,5 @@
+pub mod Fill
+pub mod Reach
+pub mod Start
+pub mod Last
+pub mod Pass
