@@ -3,7 +3,7 @@ use mathlib.Core.List.{List}
 use mathlib.Core.Path.{_≡_, sym, ap, _∙_}
 use Prim.Native.Nat.{ℕ, suc}
 use Rattle.refusals.proofs.First.{First, first-is}
-use Rattle.refusals.specs.Refusals.{Refusal, firstOf, unlessRefused, rowAfter}
+use Rattle.refusals.specs.Refusals.{Refusal, unlessRefused, rowAfter}
 use Rattle.rows.specs.Row.{written}
 use Rattle.lyndon.specs.Calls.{Fills}
 use Rattle.lyndon.specs.declared.Filled.{Filled}

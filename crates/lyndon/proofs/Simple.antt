@@ -1,9 +1,9 @@
 -- What the calls that make a table, list the longest words, tell of a word, find the least rotation and list a tree make of the facts
 -- that their ways out show.
-use mathlib.Core.Bool.{Bool, true, false, not}
+use mathlib.Core.Bool.{Bool, true, false}
 use mathlib.Core.List.{List, [], _∷_, _++_, append-nil}
 use mathlib.Core.Logic.{_⊎_, inl, inr}
-use mathlib.Core.Path.{_≡_, refl, sym, ap, _∙_}
+use mathlib.Core.Path.{_≡_, sym, ap, _∙_}
 use Prim.Native.Nat.{ℕ, zero, suc, _+_, _-_, _*_, _≤_, _<_}
 use native.Mathlib.Omega.{arith}
 use lib.Dec.{eqb}
@@ -11,7 +11,7 @@ use lib.ListN.{length, take, drop, replicate, length-append}
 use lib.Seq.{take-all, take-at, take-length, take-append-seam, length-take-le}
 use borrow.Author.Tests.{eq-eqb, ne-eqb, lt-ltb, le-ltb}
 use Rattle.refusals.proofs.First.{First, none, holds, passes, first-is, too-long, not-long, too-short, not-short}
-use Rattle.refusals.specs.Refusals.{firstOf, unlessRefused, rowAfter, patternTooLong, wordTooLong, notLyndon, tooShort}
+use Rattle.refusals.specs.Refusals.{unlessRefused, rowAfter, patternTooLong, wordTooLong, notLyndon, tooShort}
 use Rattle.rows.specs.Row.{written, writtenAt}
 use Rattle.scan.proofs.Next.{next-words}
 use Rattle.scan.proofs.Pass.{length-fits}
@@ -22,7 +22,7 @@ use Rattle.words.proofs.Longest.{longest-word}
 use Rattle.words.proofs.Lyndon.{lyndon-true, true-lyndon, false-lyndon, length-some}
 use Rattle.words.proofs.Substrings.{factors-head, longest-listed}
 use Rattle.words.proofs.Tree.{tree-count, numbers-count}
-use Rattle.words.specs.Factors.{factors, Group, longestPrefix}
+use Rattle.words.specs.Factors.{factors, longestPrefix}
 use Rattle.words.specs.Order.{Lyndon, lyndon}
 use Rattle.words.specs.Rotation.{leastRotation}
 use Rattle.words.specs.Tables.{LyndonAt, lyndonStarts, longest, longestStarts, longestWord}

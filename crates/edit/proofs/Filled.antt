@@ -1,0 +1,121 @@
+-- What is measured of an edited pattern is what the answer says and what refusal 8 tests, and the rows have room for it.
+use mathlib.Core.Bool.{false}
+use mathlib.Core.List.{List}
+use mathlib.Core.Path.{_≡_, refl, sym, ap, _∙_}
+use Prim.Native.Nat.{ℕ, suc, _*_, _≤_, _<_, min}
+use native.Mathlib.Omega.{arith}
+use lib.Dec.{ltb}
+use lib.ListN.{length, take}
+use lib.Seq.{length-take-le}
+use borrow.Author.Tests.{lt-ltb, le-ltb}
+use Rattle.refusals.specs.Refusals.{Refusal, firstOf}
+use Rattle.rows.specs.Row.{written}
+use Rattle.words.specs.Edit.{edited, place, kept, resume, middleGroups}
+use Rattle.words.specs.Factors.{join, factors, startAt, groupNumbers}
+use Rattle.words.specs.Tables.{suffixGroups, longest, longestStarts}
+use Rattle.words.proofs.Edit.{resumeFactor, kept-same, kept-first, resume-first, middle-bound}
+use Rattle.words.proofs.EditParts.{end-grows, end-le}
+use Rattle.words.proofs.Fresh.{bits-least}
+use Rattle.words.proofs.Middle.{middle-suffix}
+use Rattle.longest.specs.Best.{longestOf}
+use Rattle.longest.specs.declared.Longest.{Longest}
+use Rattle.edit.proofs.Meets.{edited-short}
+use Rattle.edit.specs.Core.{Accepted, Fills, planOf, countsOf, roomRefusals}
+use Rattle.edit.specs.declared.Counts.{Counts}
+use Rattle.edit.specs.declared.Answer.the-variants.{Done, Refused}
+use Rattle.edit.specs.declared.Seams.{Seams}
+
+module _ {refusals : List Refusal} {s : List ℕ} {from to : ℕ} {b numbers starts : List ℕ} where
+  -- a refused call leaves the rows as they were
+  pub fills-refused : {k : ℕ} → firstOf refusals ≡ suc k → Fills refusals s from to b numbers numbers starts starts (Refused (suc k))
+  fills-refused e = record { answers = rw e refl; middle = rw e refl; places = rw e refl }
+
+  pub fills-done : {numbers′ starts′ : List ℕ} {c : Counts} → firstOf refusals ≡ 0 → c ≡ countsOf s from to b
+      → numbers′ ≡ written (groupNumbers (middleGroups s from to b)) numbers → starts′ ≡ written (longestStarts (edited s from to b)) starts
+      → Fills refusals s from to b numbers numbers′ starts starts′ (Done c)
+  fills-done e c m p = record { answers = rw e (ap Done c); middle = rw e m; places = rw e p }
+
+counts-same : {k l r u g h n m x y : ℕ} → k ≡ l → r ≡ u → g ≡ h → n ≡ m → x ≡ y
+    → _≡_ {A = Counts} (record { kept = k; resume = r; groups = g; length = n; starts = x })
+    (record { kept = l; resume = u; groups = h; length = m; starts = y })
+counts-same a b c d e = rw (a, b, c, d, e) refl
+
+pub write-starts-asks : {s array : List ℕ} {from to : ℕ} {b t : List ℕ} → Accepted s array from to b t → {found : Longest} → found ≡ longestOf t
+    → {size : ℕ} → found .count ≤ size → (length t ≤ 65535) × (found .length ≡ longest t) × (length (longestStarts t) ≤ size)
+unfolding longestOf
+write-starts-asks a f h = (omega (arith, edited-short a), ap (λ q. q .length) f, omega (arith, ap (λ q. q .count) f))
+
+module _ {s array : List ℕ} {from to : ℕ} {b t : List ℕ} (a : Accepted s array from to b t) {p : Seams} (e : p ≡ planOf s from to b) where
+  placed : p .place ≡ place from to b (resume s from to b)
+  unfolding planOf
+  placed = ap (λ q. q .place) e
+
+  ended : p .end ≡ startAt (factors s) (kept s from to b)
+  unfolding planOf
+  ended = ap (λ q. q .end) e
+
+  starts-at : p .place ≡ startAt (factors (edited s from to b)) (resumeFactor s from to b)
+  starts-at = placed ∙ resume-first s from to b (a .start) (a .stretch)
+
+  pub place-within : p .place ≤ length t
+  place-within = omega (arith, starts-at, end-le (resumeFactor s from to b) (edited s from to b), ap length (a .spliced))
+
+  pub front-long : p .place ≡ length (take (p .place) t)
+  front-long = sym (length-take-le (p .place) t place-within)
+
+  pub end-within : p .end ≤ length (take (p .place) t)
+  end-within =
+      let same = ap (λ fs. length (join fs)) (kept-same s from to b (a .start) (a .stretch)) in
+      let first = kept-first s from to b (a .start) (a .stretch) in
+      let grows = end-grows (kept s from to b) (resumeFactor s from to b) (factors (edited s from to b)) first in
+      omega (arith, front-long, ended, same, grows, starts-at)
+
+  groups-are : suffixGroups (take (p .place) t) (p .end) ≡ middleGroups s from to b
+  groups-are = rw (placed, ended, a .spliced) (middle-suffix s from to b (a .start) (a .stretch))
+
+  few : length (middleGroups s from to b) ≤ 270
+  few =
+      let digits = bits-least from 13 (omega (arith, a .start, a .stretch, a .pattern)) in
+      omega (arith, middle-bound s from to b (a .start) (a .stretch), digits, a .block)
+
+  module _ {n : ℕ} (g : n ≡ length (suffixGroups (take (p .place) t) (p .end))) where
+    counted : n ≡ length (middleGroups s from to b)
+    counted = g ∙ ap length groups-are
+
+    groups-pass : {room : ℕ} → n ≤ room → ltb room (length (middleGroups s from to b)) ≡ false
+    groups-pass {room} h = le-ltb room (length (middleGroups s from to b)) (omega (arith, counted))
+
+    pub write-groups-asks : {room size : ℕ} → 3 * min room 270 ≤ size → n ≤ room
+        → (length (take (p .place) t) ≤ 65535) × (p .end ≤ length (take (p .place) t))
+        × (3 * length (suffixGroups (take (p .place) t) (p .end)) ≤ size)
+    write-groups-asks h k = (omega (arith, front-long, place-within, edited-short a), end-within, omega (arith, counted, few, g))
+
+    module _ {found : Longest} (f : found ≡ longestOf t) where
+      listed : found .count ≡ length (longestStarts (edited s from to b))
+      unfolding longestOf
+      listed = ap (λ q. q .count) f ∙ ap (λ u. length (longestStarts u)) (a .spliced)
+
+      counts-are : record { kept = p .kept; resume = p .resume; groups = n; length = found .length; starts = found .count } ≡ countsOf s from to b
+      unfolding countsOf planOf longestOf
+      counts-are =
+          let long : found .length ≡ longest (edited s from to b) = ap (λ q. q .length) f ∙ ap longest (a .spliced) in
+          counts-same (ap (λ q. q .kept) e) (ap (λ q. q .resume) e) counted long listed
+
+      module _ {room : ℕ} {numbers starts : List ℕ} where
+        pub fills-no-room : room < n → Fills (roomRefusals s from to b room (length starts)) s from to b numbers numbers starts starts (Refused 8)
+        fills-no-room h = fills-refused (rw (lt-ltb room (length (middleGroups s from to b)) (omega (arith, counted))) refl)
+
+        pub fills-no-starts : n ≤ room → length starts < found .count
+            → Fills (roomRefusals s from to b room (length starts)) s from to b numbers numbers starts starts (Refused 8)
+        fills-no-starts h k =
+            let long = length (longestStarts (edited s from to b)) in
+            fills-refused (rw (groups-pass h, lt-ltb (length starts) long (omega (arith, listed))) refl)
+
+        pub fills-rows : {numbers′ starts′ : List ℕ} → n ≤ room → found .count ≤ length starts
+            → numbers′ ≡ written (groupNumbers (suffixGroups (take (p .place) t) (p .end))) numbers → starts′ ≡ written (longestStarts t) starts
+            → Fills (roomRefusals s from to b room (length starts)) s from to b numbers numbers′ starts starts′
+            (Done (record { kept = p .kept; resume = p .resume; groups = n; length = found .length; starts = found .count }))
+        fills-rows h k m q =
+            let long = length (longestStarts (edited s from to b)) in
+            fills-done (rw (groups-pass h, le-ltb (length starts) long (omega (arith, listed))) refl) counts-are
+            (m ∙ ap (λ gs. written (groupNumbers gs) numbers) groups-are) (q ∙ ap (λ u. written (longestStarts u) starts) (a .spliced))

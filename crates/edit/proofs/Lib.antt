@@ -1,0 +1,4 @@
+pub mod Refused
+pub mod Meets
+pub mod Filled
+pub mod Passed

@@ -1,0 +1,115 @@
+-- The call with records from what the core and the storing ensure: the stored records are the middle groups.
+use mathlib.Core.List.{List, [], _∷_, _++_, map}
+use mathlib.Core.Logic.{_⊎_, inl, inr}
+use mathlib.Core.Path.{_≡_, refl, sym, ap, subst, _∙_}
+use Prim.Native.Nat.{ℕ, zero, suc, _*_, _≤_, _<_}
+use native.Mathlib.Omega.{arith}
+use lib.ListN.{length, take, drop, length-append, length-map}
+use lib.Seq.{take-at}
+use borrow.Author.Tests.{lt-ltb}
+use Rattle.edit.specs.Core.{roomRefusals, countsOf, countOf, answerOf, Fills}
+use Rattle.edit.specs.declared.Answer.{Answer}
+use Rattle.edit.specs.declared.Answer.the-variants.{Done}
+use Rattle.edit.specs.declared.Counts.{Counts}
+use Rattle.records.specs.declared.Group.{Group}
+use Rattle.records.specs.Groups.{groupsOf, filled}
+use Rattle.refusals.specs.Refusals.{Refusal, firstOf, rowAfter, tooShort}
+use Rattle.refusals.proofs.First.{first-holds}
+use Rattle.rows.specs.Row.{written}
+use Rattle.scan.proofs.Pass.{length-numbers}
+use Rattle.words.proofs.Bounded.{le-or-lt}
+use Rattle.words.specs.Demand.{DemandThree}
+use Rattle.words.specs.Edit.{edited, middleGroups}
+use Rattle.words.specs.Factors as factors
+use Rattle.words.specs.Tables.{longestStarts}
+use Rattle.lyndon_edit.specs.Calls.{answerIn, groupOf, recordOf, recordsAfter, recordRefusals, EditsRecords}
+use Rattle.lyndon_edit.proofs.Answered.{done-accepted, later-passed, demand-answered}
+
+-- the records read off the numbers, and the groups read off the records
+records-of : (gs : List factors.Group) (rest : List ℕ) → groupsOf (length gs) (factors.groupNumbers gs ++ rest) ≡ map recordOf gs
+records-of [] rest = refl
+records-of (g ∷ gs) rest = ap {B = List Group} (λ t. recordOf g ∷ t) (records-of gs rest)
+
+groups-of : (gs : List factors.Group) → map groupOf (map recordOf gs) ≡ gs
+groups-of [] = refl
+groups-of (g ∷ gs) = ap {B = List factors.Group} (λ t. g ∷ t) (groups-of gs)
+
+-- a row that is not too short
+room-passed : (needs room : ℕ) (rs : List Refusal) → firstOf (tooShort needs room ∷ rs) ≡ 0 → needs ≤ room
+room-passed needs room rs e = go (le-or-lt needs room)
+  where
+    go : (needs ≤ room) ⊎ (room < needs) → needs ≤ room
+    go (inl h) = h
+    go (inr h) = absurd (omega (arith, first-holds (tooShort needs room) rs (lt-ltb room needs h)))
+
+module _ (s array last : List ℕ) (from to : ℕ) (b : List ℕ) (row : List Group) (ns ns′ starts starts′ : List ℕ) (r : Answer)
+    (f : Fills (recordRefusals s array last from to b (length row) (length starts)) s from to b ns ns′ starts starts′ r) (n : ℕ) (count : n ≡ countOf r) where
+  abbrev rs : List Refusal
+  rs = recordRefusals s array last from to b (length row) (length starts)
+
+  abbrev gs : List factors.Group
+  gs = middleGroups s from to b
+
+  -- no group where the edit is refused, all of them where it is not
+  counted : {k : ℕ} → firstOf rs ≡ k → n ≡ countOf (answerOf k (countsOf s from to b))
+  counted e = count ∙ ap countOf (f .answers) ∙ ap (λ x. countOf (answerOf x (countsOf s from to b))) e
+
+  all-counted : firstOf rs ≡ 0 → n ≡ length gs
+  unfolding countsOf
+  all-counted e = counted e
+
+  written-numbers : firstOf rs ≡ 0 → ns′ ≡ written (factors.groupNumbers gs) ns
+  written-numbers e = f .middle ∙ ap (λ k. rowAfter k (factors.groupNumbers gs) ns) e
+
+  pub row-fits : n ≤ length row
+  row-fits = go (firstOf rs) refl
+    where
+      go : (k : ℕ) → firstOf rs ≡ k → n ≤ length row
+      go zero e =
+          let later = later-passed s array last from to b (roomRefusals s from to b (length row) (length starts)) e in
+          omega (arith, all-counted e, room-passed (length gs) (length row) (tooShort (length (longestStarts (edited s from to b))) (length starts) ∷ []) later)
+      go (suc k) e = omega (arith, counted e)
+
+  pub numbers-fit : 3 * n ≤ length ns′
+  numbers-fit = go (firstOf rs) refl
+    where
+      go : (k : ℕ) → firstOf rs ≡ k → 3 * n ≤ length ns′
+      go zero e =
+          omega (
+            arith,
+            all-counted e,
+            ap length (written-numbers e),
+            length-append (factors.groupNumbers gs) (drop (length (factors.groupNumbers gs)) ns),
+            length-numbers gs,
+          )
+      go (suc k) e = omega (arith, counted e)
+
+  module _ (row′ : List Group) (stored : row′ ≡ filled n ns′ row) where
+    -- the row that is left
+    stored-after : {k : ℕ} → firstOf rs ≡ k → row′ ≡ recordsAfter k (map recordOf gs) row
+    unfolding filled
+    stored-after {k} e = go k e
+      where
+        go : (k : ℕ) → firstOf rs ≡ k → row′ ≡ recordsAfter k (map recordOf gs) row
+        go zero q =
+            let a : groupsOf n ns′ ≡ map recordOf gs =
+            ap (λ m. groupsOf m ns′) (all-counted q) ∙ ap (groupsOf (length gs)) (written-numbers q) ∙ records-of gs (drop (length (factors.groupNumbers gs)) ns) in
+            stored ∙ ap (λ t. t ++ drop n row) a ∙ ap (λ m. map recordOf gs ++ drop m row) (all-counted q ∙ sym (length-map gs recordOf))
+        go (suc k) q = stored ∙ ap (λ m. groupsOf m ns′ ++ drop m row) (counted q)
+
+    pub records-answered : EditsRecords s array last from to b row row′ starts starts′ r
+    unfolding countsOf
+    records-answered = record { answers = f .answers; middle = stored-after refl; places = f .places; demandThree = demand }
+      where
+        demand : (c : Counts) → r ≡ Done c → DemandThree s from to b (answerIn c (map groupOf (take (c .groups) row′)) starts′)
+        demand c e =
+            let d = done-accepted (firstOf rs) (countsOf s from to b) c (sym (f .answers) ∙ e) in
+            let out = longestStarts (edited s from to b) in
+            let w : row′ ≡ map recordOf gs ++ drop (length (map recordOf gs)) row = stored-after (d .0) in
+            let p : starts′ ≡ written out starts = f .places ∙ ap (λ k. rowAfter k out starts) (d .0) in
+            let t : take (length gs) row′ ≡ map recordOf gs =
+            ap (take (length gs)) w ∙ take-at (map recordOf gs) (drop (length (map recordOf gs)) row) (length gs) (length-map gs recordOf) in
+            let g : map groupOf (take (length gs) row′) ≡ gs = ap (map groupOf) t ∙ groups-of gs in
+            subst (λ x. DemandThree s from to b (answerIn x (map groupOf (take (x .groups) row′)) starts′)) (d .1)
+            (demand-answered s array last from to b (roomRefusals s from to b (length row) (length starts)) (d .0)
+            (map groupOf (take (length gs) row′)) starts′ g (drop (length out) starts) p)
