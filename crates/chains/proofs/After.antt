@@ -4,24 +4,24 @@ use mathlib.Core.List.{List, [], _∷_, _++_, append-assoc}
 use mathlib.Core.Path.{_≡_, refl, sym, ap, _∙_}
 use Prim.Native.Nat.{ℕ, _+_, _*_, _-_, _≤_, _<_}
 use native.Mathlib.Omega.{arith}
-use lib.ListN.{length, take, drop, getD, replicate, length-take, drop-of-length-le, replicate-append-replicate}
-use lib.Seq.{getD-take}
+use lib.ListN.{length, take, drop, getD, replicate, drop-of-length-le, replicate-append-replicate}
 use Rattle.words.specs.Order.{same}
 use Rattle.words.specs.Factors.{factors, startsWith, groupsFrom}
 use Rattle.words.specs.Tables.{longestAt, lyndonArray, suffixGroups}
 use Rattle.words.proofs.Below.{word-length}
 use Rattle.words.proofs.Order.{same-true, false-same}
 use Rattle.words.proofs.Groups.{groups-repeat}
-use Rattle.words.proofs.Tables.{longest-at-some, longest-at-fits, chain-suffix, lyndon-array-entry, lyndon-array-length}
+use Rattle.words.proofs.Stored.{stored-long, stored-entry}
+use Rattle.words.proofs.Tables.{longest-at-some, longest-at-fits, chain-suffix, lyndon-array-length}
 use Rattle.scan.specs.Group.{NextGroup}
 
 -- a row whose first entries are the Lyndon array
 module _ (s row : List ℕ) (h : take (length s) row ≡ lyndonArray s) where
   pub array-room : length s ≤ length row
-  array-room = omega (arith, length-take (length s) row, ap length h, lyndon-array-length s)
+  array-room = stored-long (length s) row (lyndonArray s) (lyndon-array-length s) h
 
   pub array-entry : (i : ℕ) → i < length s → getD row i 0 ≡ longestAt s i
-  array-entry i l = sym (getD-take (length s) row i 0 l) ∙ ap (λ t. getD t i 0) h ∙ lyndon-array-entry s i l
+  array-entry = stored-entry s row h
 
   pub array-fits : (i : ℕ) → i < length s → i + getD row i 0 ≤ length s
   array-fits i l = rw (array-entry i l) (longest-at-fits s i l)

@@ -13,6 +13,7 @@ use Rattle.words.proofs.Below.{word-length}
 use Rattle.words.proofs.Order.{same-true, false-same}
 use Rattle.words.proofs.Factors.{join-factors}
 use Rattle.words.proofs.Groups.{groups-repeat}
+use Rattle.words.proofs.Stored.{stored-long}
 use Rattle.words.proofs.Tables.{last-some, last-fits, chain-prefix, last-factors-entry, last-factors-length}
 use Rattle.chains.specs.Last.{LastGroup}
 use Rattle.chains.proofs.Parted.{Parted, parted, starts-repeat}
@@ -20,7 +21,7 @@ use Rattle.chains.proofs.Parted.{Parted, parted, starts-repeat}
 -- a row whose first entries are the table of last factors
 module _ (s row : List ℕ) (h : take (length s) row ≡ lastFactors s) where
   pub table-room : length s ≤ length row
-  table-room = omega (arith, length-take (length s) row, ap length h, last-factors-length s)
+  table-room = stored-long (length s) row (lastFactors s) (last-factors-length s) h
 
   module _ (q : ℕ) (l : 0 < q) (m : q ≤ length s) where
     pub table-entry : getD row (q - 1) 0 ≡ lastFactor s q

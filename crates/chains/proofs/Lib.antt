@@ -1,5 +1,4 @@
 pub mod After
-pub mod Back
 pub mod Before
 pub mod Parted
 pub mod Turn

@@ -9,7 +9,7 @@ use Rattle.words.specs.Tables.{prefixGroups}
 use Rattle.rows.specs.Row.{written}
 use Rattle.scan.proofs.Pass.{length-numbers}
 use Rattle.chains.specs.Last.{LastGroup}
-use Rattle.chains.proofs.Back.{Back, back-none, back-part, back-all, back-length, three-written}
+use Rattle.rows.proofs.Back.{Back, back-none, back-part, back-all, back-length, three-written}
 
 pub prefix-none : (s : List ℕ) (q : ℕ) → q ≤ 0 → prefixGroups s q ≡ []
 unfolding prefixGroups factors

@@ -5,14 +5,15 @@ use Prim.Native.Nat.{ℕ, zero, suc, _+_, _-_, _*_, _/_, _≤_, _<_}
 use native.Mathlib.Nat.{div-mul-le-self, lt-div-mul-add, div-lt-iff-lt-mul, mul-le-mul-right}
 use native.Mathlib.Numerals.{add-one}
 use native.Mathlib.Omega.{arith}
-use lib.ListN.{length, take, drop, getD, replicate, length-take}
-use lib.Seq.{drop-drop, getD-take}
+use lib.ListN.{length, take, drop, getD, replicate}
+use lib.Seq.{drop-drop}
 use Rattle.words.specs.Factors.{factors, startAt}
 use Rattle.words.specs.Tables.{longestAt, lyndonArray}
 use Rattle.words.proofs.Below.{word-length}
 use Rattle.words.proofs.Factors.{factors-falling}
 use Rattle.words.proofs.EditParts.{end-apart, end-all, end-next, factors-after}
-use Rattle.words.proofs.Tables.{chain-suffix, longest-at-some, longest-at-fits, lyndon-array-entry, lyndon-array-length}
+use Rattle.words.proofs.Stored.{stored-long, stored-entry}
+use Rattle.words.proofs.Tables.{chain-suffix, longest-at-some, longest-at-fits, lyndon-array-length}
 use Rattle.scan.specs.Group.{NextGroup}
 use Rattle.scan.proofs.Next.{next-words}
 use Rattle.cuts.specs.Bounds.{EndsBy}
@@ -94,10 +95,10 @@ module _ {t : List ℕ} {count i size power : ℕ} (a : At t count i) (g : NextG
 -- the entry of a stored Lyndon array
 module _ (s table : List ℕ) (i : ℕ) (e : take (length s) table ≡ lyndonArray s) (h : i < length s) where
   pub entry-within : i < length table
-  entry-within = omega (arith, ap length e, length-take (length s) table, lyndon-array-length s)
+  entry-within = omega (arith, stored-long (length s) table (lyndonArray s) (lyndon-array-length s) e)
 
   entry-is : getD table i 0 ≡ longestAt s i
-  entry-is = sym (getD-take (length s) table i 0 h) ∙ ap (λ u. getD u i 0) e ∙ lyndon-array-entry s i h
+  entry-is = stored-entry s table e i h
 
   pub entry-fits : i + getD table i 0 ≤ length s
   entry-fits = omega (arith, entry-is, longest-at-fits s i h)

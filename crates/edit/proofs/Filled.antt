@@ -20,7 +20,8 @@ use Rattle.words.proofs.Middle.{middle-suffix}
 use Rattle.longest.specs.Best.{longestOf}
 use Rattle.longest.specs.declared.Longest.{Longest}
 use Rattle.edit.proofs.Meets.{edited-short}
-use Rattle.edit.specs.Core.{Accepted, Fills, planOf, countsOf, roomRefusals}
+use Rattle.edit.specs.Core.{Fills, countsOf, roomRefusals}
+use Rattle.edit.specs.Inner.{Accepted, planOf}
 use Rattle.edit.specs.declared.Counts.{Counts}
 use Rattle.edit.specs.declared.Answer.the-variants.{Done, Refused}
 use Rattle.edit.specs.declared.Seams.{Seams}

@@ -16,7 +16,8 @@ use Rattle.words.specs.Tables.{lyndonArray}
 use Rattle.words.proofs.Bounded.{le-or-lt}
 use Rattle.words.proofs.Edit.{length-edited}
 use Rattle.words.proofs.Order.{same-true}
-use Rattle.edit.specs.Core.{Accepted, Fills, editRefusals}
+use Rattle.edit.specs.Core.{Fills, editRefusals}
+use Rattle.edit.specs.Inner.{Accepted}
 use Rattle.edit.specs.declared.Answer.{Answer}
 use Rattle.edit.specs.declared.Answer.the-variants.{Refused}
 use Rattle.edit.proofs.Refused.{Shaped, refuses-pattern, refuses-backward, refuses-end}

@@ -1,17 +1,16 @@
 -- What the call that answers an edit refuses, answers and leaves in its rows.
 use mathlib.Core.List.{List, [], _∷_}
 use mathlib.Core.Path.{_≡_}
-use Prim.Native.Nat.{ℕ, zero, suc, _≤_}
-use lib.ListN.{length, take}
-use Rattle.refusals.specs.Refusals.{Refusal, firstOf, rowAfter, maxPattern, maxBlock}
+use Prim.Native.Nat.{ℕ, zero, suc}
+use lib.ListN.{length}
+use Rattle.refusals.specs.Refusals.{Refusal, firstOf, rowAfter}
 use Rattle.refusals.specs.Refusals.{patternTooLong, noStretch, blockTooLong, editedTooLong, notTable, tooShort}
-use Rattle.words.specs.Edit.{edited, place, kept, resume, middleGroups}
-use Rattle.words.specs.Factors.{factors, startAt, groupNumbers}
+use Rattle.words.specs.Edit.{edited, kept, resume, middleGroups}
+use Rattle.words.specs.Factors.{groupNumbers}
 use Rattle.words.specs.Tables.{lyndonArray, lastFactors, longest, longestStarts}
 use Rattle.edit.specs.declared.Counts.{Counts}
 use Rattle.edit.specs.declared.Answer.{Answer}
 use Rattle.edit.specs.declared.Answer.the-variants.{Done, Refused}
-use Rattle.edit.specs.declared.Seams.{Seams}
 
 -- The refusals of an edit that need no result: 1 to 5.
 abbrev pub editRefusals : List ℕ → List ℕ → List ℕ → ℕ → ℕ → List ℕ → List Refusal
@@ -49,23 +48,3 @@ pub record Fills (refusals : List Refusal) (s : List ℕ) (from to : ℕ) (b num
   pub answers : r ≡ answerOf (firstOf refusals) (countsOf s from to b)
   pub middle : numbers′ ≡ rowAfter (firstOf refusals) (groupNumbers (middleGroups s from to b)) numbers
   pub places : starts′ ≡ rowAfter (firstOf refusals) (longestStarts (edited s from to b)) starts
-
--- What holds of an edit past the refusals 1 to 5, with its edited pattern t.
-pub record Accepted (s array : List ℕ) (from to : ℕ) (b t : List ℕ) : Type 0 where
-  pub start : from ≤ to
-  pub stretch : to ≤ length s
-  pub pattern : length s ≤ maxPattern
-  pub block : length b ≤ maxBlock
-  pub table : take (length s) array ≡ lyndonArray s
-  pub spliced : t ≡ edited s from to b
-  pub fits : length (edited s from to b) ≤ maxPattern
-
--- Where the three parts of the edited pattern meet.
-unfoldable pub planOf : List ℕ → ℕ → ℕ → List ℕ → Seams
-planOf s from to b =
-    record {
-      kept = kept s from to b;
-      end = startAt (factors s) (kept s from to b);
-      resume = resume s from to b;
-      place = place from to b (resume s from to b);
-    }

@@ -17,7 +17,8 @@ ghost use mathlib.Core.Path.{_≡_};
 ghost use Prim.Native.Nat.{_*_, _≤_, min};
 ghost use lib.ListN.{length};
 ghost use Rattle.refusals.specs.Refusals.{firstOf};
-ghost use Rattle.edit.specs.Core.{Accepted, countOf, planOf, editRefusals, roomRefusals, Fills};
+ghost use Rattle.edit.specs.Core.{countOf, editRefusals, roomRefusals, Fills};
+ghost use Rattle.edit.specs.Inner.{Accepted, planOf};
 
 // What an accepted edit answers beside the two rows: kept, resume, the number of middle groups, the longest length, the number of starts.
 pub struct Counts {

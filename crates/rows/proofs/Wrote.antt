@@ -1,4 +1,4 @@
--- How a loop writes a result to a row: entry by entry, part by part from the front, or part by part from the back.
+-- How a loop writes a result to a row from the front: entry by entry, or part by part.
 use mathlib.Core.List.{List, [], _∷_, _++_, append-assoc, append-nil}
 use mathlib.Core.Path.{_≡_, refl, sym, ap, _∙_}
 use Prim.Native.Nat.{ℕ, _+_, _≤_, _<_}

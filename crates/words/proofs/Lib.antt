@@ -9,6 +9,7 @@ pub mod Longest
 pub mod Below
 pub mod Scan
 pub mod Tables
+pub mod Stored
 pub mod Rotation
 pub mod RotationGroups
 pub mod Tree

@@ -3,7 +3,7 @@ use Prim.Native.Nat.{_≤_}
 use lib.ListN.{length-set}
 use Rattle.words.specs.Factors.{groupNumbers}
 use Rattle.words.specs.Tables.{prefixGroups}
-use Rattle.chains.proofs.Back.{Back, back-length}
+use Rattle.rows.proofs.Back.{Back, back-length}
 use Rattle.chains.proofs.Turn.{stretches}
 use Rattle.chains.proofs.TurnBack.{write-start, write-room, write-turn, write-end}
 use borrow.Author.Needs.{needs}
