@@ -1,0 +1,140 @@
+//! The two exported calls: how Rust declares them, and whether one answers as it should, with every entry of both rows as it should be.
+//! Each row is lent out of a longer one, whose rest must stay.
+use crate::naive::{self, Answer};
+
+#[repr(C)]
+#[derive(Clone, Copy, Debug, PartialEq)]
+struct Group {
+    start: u16,
+    length: u16,
+    power: u16,
+}
+
+#[repr(C)]
+#[derive(Clone, Copy, Debug, PartialEq)]
+struct EditAnswer {
+    refusal: u8,
+    kept: usize,
+    resume: usize,
+    groups: usize,
+    length: usize,
+    starts: usize,
+}
+
+// A slice goes as two parameters. Declared as `&[u16]`, `last` would go astray: Rust passes a pair that no longer fits the registers in memory.
+macro_rules! exported {
+    ($($name:ident: $entry:ty),*) => {
+        unsafe extern "C" {
+            $(fn $name(
+                pattern: *const u8, pattern_len: usize,
+                array: *const u16, array_len: usize,
+                last: *const u16, last_len: usize,
+                from: usize, to: usize,
+                block: *const u8, block_len: usize,
+                middle: *mut $entry, middle_len: usize,
+                starts: *mut u16, starts_len: usize,
+            ) -> EditAnswer;)*
+        }
+    };
+}
+exported!(lyndon_edit: Group, lyndon_edit_numbers: u16);
+
+#[derive(Clone)]
+pub struct Edit {
+    pub pattern: Vec<u8>,
+    pub array: Vec<u16>,
+    pub last: Vec<u16>,
+    pub from: usize,
+    pub to: usize,
+    pub block: Vec<u8>,
+}
+
+impl Edit {
+    /// With both tables as defined.
+    pub fn new(pattern: &[u8], from: usize, to: usize, block: &[u8]) -> Edit {
+        let (array, last) = (naive::lyndon_array(pattern), naive::last_factors(pattern));
+        Edit { pattern: pattern.to_vec(), array, last, from, to, block: block.to_vec() }
+    }
+
+    /// Of the letter `a` repeated: every entry of both tables is 1.
+    pub fn of_equal(n: usize, from: usize, to: usize, block: &[u8]) -> Edit {
+        Edit { pattern: vec![b'a'; n], array: vec![1; n], last: vec![1; n], from, to, block: block.to_vec() }
+    }
+
+    pub fn answer(&self) -> Answer {
+        naive::answer(&self.pattern, self.from, self.to, &self.block)
+    }
+}
+
+macro_rules! call {
+    ($name:ident, $e:expr, $middle:expr, $starts:expr) => {{
+        let (e, m, s) = ($e, $middle, $starts);
+        unsafe {
+            $name(
+                e.pattern.as_ptr(), e.pattern.len(), e.array.as_ptr(), e.array.len(), e.last.as_ptr(), e.last.len(),
+                e.from, e.to, e.block.as_ptr(), e.block.len(), m.as_mut_ptr(), m.len(), s.as_mut_ptr(), s.len(),
+            )
+        }
+    }};
+}
+
+pub type Outcome = Result<Answer, u8>;
+
+fn flat(want: &Outcome) -> EditAnswer {
+    match want {
+        Ok(a) => EditAnswer {
+            refusal: 0,
+            kept: a.kept,
+            resume: a.resume,
+            groups: a.middle.len(),
+            length: a.length,
+            starts: a.starts.len(),
+        },
+        Err(number) => EditAnswer { refusal: *number, kept: 0, resume: 0, groups: 0, length: 0, starts: 0 },
+    }
+}
+
+/// How many entries lie behind each lent row.
+const BEHIND: usize = 4;
+
+/// Numbers that no result has in their place.
+fn canaries(room: usize) -> Vec<u16> {
+    (0..room + BEHIND).map(|i| 65000 - (i % 1000) as u16).collect()
+}
+
+/// The row with a result at its front, where there is one.
+fn after<T: Copy>(row: &[T], result: Option<Vec<T>>) -> Vec<T> {
+    let mut row = row.to_vec();
+    let result = result.unwrap_or_default();
+    row[..result.len()].copy_from_slice(&result);
+    row
+}
+
+fn starts_after(row: &[u16], want: &Outcome) -> Vec<u16> {
+    after(row, want.as_ref().ok().map(|a| a.starts.clone()))
+}
+
+/// `lyndon_edit` with `room` records and `places` starts lent.
+pub fn records_hold(e: &Edit, room: usize, places: usize, want: &Outcome) -> bool {
+    let group = |g: [u16; 3]| Group { start: g[0], length: g[1], power: g[2] };
+    let row: Vec<Group> = canaries(room).iter().map(|&c| group([c, c + 1, c + 2])).collect();
+    let mut middle = row.clone();
+    let mut starts = canaries(places);
+    let got = call!(lyndon_edit, e, &mut middle[..room], &mut starts[..places]);
+    let groups = want.as_ref().ok().map(|a| a.middle.iter().map(|&g| group(g)).collect());
+    got == flat(want) && middle == after(&row, groups) && starts == starts_after(&canaries(places), want)
+}
+
+/// `lyndon_edit_numbers` with `room` numbers and `places` starts lent.
+pub fn numbers_hold(e: &Edit, room: usize, places: usize, want: &Outcome) -> bool {
+    let mut middle = canaries(room);
+    let mut starts = canaries(places);
+    let got = call!(lyndon_edit_numbers, e, &mut middle[..room], &mut starts[..places]);
+    let groups = want.as_ref().ok().map(|a| a.middle.concat());
+    got == flat(want) && middle == after(&canaries(room), groups) && starts == starts_after(&canaries(places), want)
+}
+
+/// Both calls with the same room.
+pub fn both_hold(e: &Edit, room: usize, places: usize, want: &Outcome) -> bool {
+    records_hold(e, room, places, want) && numbers_hold(e, 3 * room, places, want)
+}

@@ -1,0 +1,210 @@
+//! Tries `lyndon_edit` and `lyndon_edit_numbers` as a Rust program calls them (`calls.rs`), and compares with the trainer's sheet
+//! or with the definitions computed naively (`naive.rs`).
+mod calls;
+mod naive;
+use calls::{both_hold, numbers_hold, records_hold, Edit};
+use naive::Answer;
+
+#[derive(Default)]
+struct Tally {
+    passed: u32,
+    failed: u32,
+}
+
+impl Tally {
+    fn check(&mut self, name: &str, what: &str, ok: bool) {
+        if ok {
+            self.passed += 1;
+        } else {
+            self.failed += 1;
+            println!("failed: {name}, {what}");
+        }
+    }
+
+    /// An accepted edit, with rows one too short, exact, and longer, and with longer tables.
+    fn accepts(&mut self, name: &str, e: &Edit, want: Answer) {
+        let (groups, places) = (want.middle.len(), want.starts.len());
+        let want = Ok(want);
+        self.check(name, "exact rows", both_hold(e, groups, places, &want));
+        self.check(name, "longer rows", both_hold(e, groups + 3, places + 5, &want));
+        self.check(name, "a number or two more", (1..3).all(|k| numbers_hold(e, 3 * groups + k, places, &want)));
+        if groups > 0 {
+            self.check(name, "a record less", records_hold(e, groups - 1, places, &Err(8)));
+            self.check(name, "a number less", numbers_hold(e, 3 * groups - 1, places, &Err(8)));
+        }
+        if places > 0 {
+            self.check(name, "a start less", both_hold(e, groups, places - 1, &Err(8)));
+        }
+        let mut longer = e.clone();
+        longer.array.extend([0, 9]);
+        longer.last.extend([7, 0, 65535]);
+        self.check(name, "longer tables", both_hold(&longer, groups, places, &want));
+    }
+
+    /// A refused edit, with rows that are long enough for any result and with empty ones.
+    fn refuses(&mut self, name: &str, e: &Edit, number: u8) {
+        self.check(name, "long rows", both_hold(e, 270, 4096, &Err(number)));
+        self.check(name, "empty rows", both_hold(e, 0, 0, &Err(number)));
+    }
+}
+
+const S: &[u8] = b"acbabcabcabac";
+
+/// The edits of the trainer's sheet; the definitions must say the same.
+fn sheet(t: &mut Tally) {
+    type Line<'a> = (&'a str, &'a [u8], usize, usize, &'a [u8], usize, &'a [[u16; 3]], usize, usize, &'a [u16]);
+    let lines: [Line; 7] = [
+        ("P5", S, 5, 6, b"b", 1, &[[3, 6, 1]], 9, 6, &[3]),
+        ("P6", S, 11, 11, b"a", 3, &[[9, 2, 1], [11, 3, 1]], 13, 3, &[0, 3, 6, 11]),
+        ("P7", S, 9, 10, b"", 1, &[[3, 9, 1]], 13, 9, &[3]),
+        ("P8", S, 1, 3, b"bac", 0, &[[0, 10, 1]], 9, 10, &[0]),
+        ("P9", S, 7, 10, b"", 2, &[[6, 4, 1]], 13, 4, &[6]),
+        ("P12", b"aa", 1, 1, b"a", 1, &[[1, 1, 1]], 1, 1, &[0, 1, 2]),
+        ("P13", b"aba", 3, 3, b"c", 0, &[[0, 4, 1]], 3, 4, &[0]),
+    ];
+    for (name, pattern, from, to, block, kept, middle, resume, length, starts) in lines {
+        let e = Edit::new(pattern, from, to, block);
+        let want = Answer { kept, resume, middle: middle.to_vec(), length, starts: starts.to_vec() };
+        t.check(name, "the definitions", e.answer() == want);
+        t.accepts(name, &e, want);
+    }
+}
+
+/// Edits at both ends, of the empty pattern, of the whole pattern, of bytes that differ as signed numbers, with many groups.
+fn places(t: &mut Tally) {
+    let falling: Vec<u8> = (0..=255).rev().collect();
+    let edits: [(&str, &[u8], usize, usize, &[u8]); 14] = [
+        ("nothing changed", S, 5, 5, b""),
+        ("inserted at the start", S, 0, 0, b"ab"),
+        ("first byte gone", S, 0, 1, b""),
+        ("inserted at the end", S, 13, 13, b"ab"),
+        ("last byte gone", S, 12, 13, b""),
+        ("nothing at the end", S, 13, 13, b""),
+        ("whole pattern replaced", S, 0, 13, b"bbaab"),
+        ("whole pattern gone", S, 0, 13, b""),
+        ("whole pattern put again", S, 0, 13, S),
+        ("empty pattern and block", b"", 0, 0, b""),
+        ("empty pattern", b"", 0, 0, b"baab"),
+        ("empty pattern, falling block", b"", 0, 0, &falling),
+        ("7F before 80", b"\x7f", 1, 1, b"\x80"),
+        ("80 before 7F", b"\x80", 1, 1, b"\x7f"),
+    ];
+    for (name, pattern, from, to, block) in edits {
+        let e = Edit::new(pattern, from, to, block);
+        let want = e.answer();
+        t.accepts(name, &e, want);
+    }
+}
+
+/// The longest pattern, block and edited pattern that are accepted.
+fn limits(t: &mut Tally) {
+    let (n, all): (usize, Vec<u16>) = (4096, (0..4096).collect());
+    let reaching = |resume| Answer { kept: 0, resume, middle: vec![[0, 4096, 1]], length: 4096, starts: vec![0] };
+    t.accepts("4096 bytes, last 256 replaced", &Edit::of_equal(n, 3840, n, &[b'b'; 256]), reaching(4096));
+    t.accepts("3840 bytes, 256 more", &Edit::of_equal(3840, 3840, 3840, &[b'b'; 256]), reaching(3840));
+    let same = Answer { kept: n, resume: n, middle: vec![], length: 1, starts: all.clone() };
+    t.accepts("4096 bytes, nothing at the end", &Edit::of_equal(n, n, n, b""), same);
+    let first = Answer { kept: 0, resume: 1, middle: vec![[0, 1, 1]], length: 1, starts: all };
+    t.accepts("4096 bytes, the first replaced", &Edit::of_equal(n, 0, 1, b"b"), first);
+    let gone = Answer { kept: 0, resume: n, middle: vec![], length: 0, starts: vec![] };
+    t.accepts("4096 bytes gone", &Edit::of_equal(n, 0, n, b""), gone);
+    t.refuses("4097 bytes", &Edit::of_equal(4097, 0, 4097, b""), 1);
+    t.refuses("to one past the end", &Edit::of_equal(n, 0, n + 1, b""), 2);
+    t.refuses("a block of 257", &Edit::of_equal(10, 0, 10, &[b'b'; 257]), 3);
+    t.refuses("edited to 4097", &Edit::of_equal(3841, 3841, 3841, &[b'b'; 256]), 4);
+    t.refuses("edited to 4097 by one byte", &Edit::of_equal(n, 7, 7, b"a"), 4);
+}
+
+/// Stretches that are none, and tables that are not the pattern's.
+fn refusals(t: &mut Tally) {
+    let max = usize::MAX;
+    for pattern in [S, b""] {
+        for (from, to) in [(1, 0), (14, 13), (0, 14), (14, 14), (max, max), (0, max), (max, 0), (max - 1, max), (max, max - 1), (1 << 63, 1 << 63)] {
+            t.refuses(&format!("{} bytes, {from} to {to}", pattern.len()), &Edit::new(pattern, from, to, b"b"), 2);
+        }
+    }
+    let right = Edit::new(S, 5, 6, b"b");
+    let mut wrong = |name: &str, spoil: &dyn Fn(&mut Edit)| {
+        let mut e = right.clone();
+        spoil(&mut e);
+        t.refuses(name, &e, 5);
+    };
+    wrong("first table an entry short", &|e| e.array.truncate(12));
+    wrong("second table an entry short", &|e| e.last.truncate(12));
+    wrong("first table empty", &|e| e.array.clear());
+    wrong("tables exchanged", &|e| std::mem::swap(&mut e.array, &mut e.last));
+    for i in 0..S.len() {
+        wrong(&format!("entry {i} of the first table more"), &|e| e.array[i] += 1);
+        wrong(&format!("entry {i} of the first table less"), &|e| e.array[i] -= 1);
+        wrong(&format!("entry {i} of the second table more"), &|e| e.last[i] += 1);
+        wrong(&format!("entry {i} of the second table less"), &|e| e.last[i] -= 1);
+    }
+    t.check("a right edit", "empty rows", both_hold(&right, 0, 0, &Err(8)));
+}
+
+/// Of several refusals that hold the first is answered: each edit here has all the later ones too.
+fn order(t: &mut Tally) {
+    let bare = |n, from, to, block: usize| Edit { array: vec![], last: vec![], ..Edit::of_equal(n, from, to, &vec![b'b'; block]) };
+    let edits = [
+        (1, bare(4097, usize::MAX, 0, 257)),
+        (2, bare(4096, 2, 1, 257)),
+        (3, bare(4096, 1, 1, 257)),
+        (4, bare(4096, 1, 1, 256)),
+        (5, bare(4096, 0, 256, 256)),
+        (8, Edit::of_equal(4096, 0, 256, &[b'b'; 256])),
+    ];
+    for (number, e) in edits {
+        t.check("the first refusal", &number.to_string(), both_hold(&e, 0, 0, &Err(number)));
+    }
+}
+
+/// All words of at most `n` letters.
+fn words(letters: &[u8], n: usize) -> Vec<Vec<u8>> {
+    let mut all = vec![vec![]];
+    let mut from = 0;
+    for _ in 0..n {
+        let upto = all.len();
+        for i in from..upto {
+            all.extend(letters.iter().map(|&b| [&all[i][..], &[b]].concat()).collect::<Vec<_>>());
+        }
+        from = upto;
+    }
+    all
+}
+
+/// Every edit of every short pattern, and random ones of longer patterns, with exact rows: a pattern is one check.
+fn sweep(t: &mut Tally) {
+    let exact = |e: &Edit| {
+        let want = e.answer();
+        both_hold(e, want.middle.len(), want.starts.len(), &Ok(want))
+    };
+    for pattern in words(b"ab", 5) {
+        let plain = Edit::new(&pattern, 0, 0, b"");
+        let n = pattern.len();
+        let ok = (0..=n).all(|from| (from..=n).all(|to| words(b"ab", 2).into_iter().all(|block| exact(&Edit { from, to, block, ..plain.clone() }))));
+        t.check(&format!("{pattern:?}"), "every edit", ok);
+    }
+    let mut state = 1u64;
+    let mut below = |n: usize| {
+        state = state.wrapping_mul(6364136223846793005).wrapping_add(1442695040888963407);
+        (state >> 33) as usize % n
+    };
+    for i in 0..300 {
+        let letters = [2, 3, 256][i % 3];
+        let (n, block) = (below(60), below(12));
+        let pattern: Vec<u8> = (0..n).map(|_| below(letters) as u8).collect();
+        let block: Vec<u8> = (0..block).map(|_| below(letters) as u8).collect();
+        let from = below(n + 1);
+        let e = Edit::new(&pattern, from, from + below(n - from + 1), &block);
+        t.check(&format!("{pattern:?}"), "a random edit", exact(&e));
+    }
+}
+
+fn main() {
+    let mut t = Tally::default();
+    for part in [sheet, places, limits, refusals, order, sweep] {
+        part(&mut t);
+    }
+    println!("{} passed, {} failed", t.passed, t.failed);
+    std::process::exit((t.failed > 0) as i32);
+}
