@@ -33,15 +33,15 @@ shared-slice-read-x c = search needs
 shared-slice-read-y : tie.Need-shared-slice-read-y Inv-loop μ-loop
 shared-slice-read-y c = search needs
 
-sub-t12 : tie.Need-sub-t12 Inv-loop μ-loop
-sub-t12 c = search needs
+sub-t13 : tie.Need-sub-t13 Inv-loop μ-loop
+sub-t13 c = search needs
 
-div-t13 : tie.Need-div-t13 Inv-loop μ-loop
-div-t13 c = search needs
+div-t14 : tie.Need-div-t14 Inv-loop μ-loop
+div-t14 c = search needs
 
 returns : tie.Need-returns Inv-loop μ-loop
 returns c =
-    let l = c .before .before .before .before in
+    let l = c .before .before .before .before .before in
     next-group (l .loop .inv) (stop-smaller (l .loop .inv) (search needs))
 
 add-p : tie.Need-add-p Inv-loop μ-loop
@@ -58,14 +58,14 @@ loop-less c = search needs
 
 loop-again : tie.Need-loop-again Inv-loop μ-loop
 loop-again c =
-    let l = c .before .before .before .before .before in
-    ⊎-elim (λ w. rw (w .1) (turn-up (l .loop .inv) (search needs) (w .0 .taken))) (λ w. rw (w .1) (turn-same (l .loop .inv) (search needs) (omega arith))) (c .if2 .came)
+    let l = c .before .before .before .before in
+    ⊎-elim (λ w. rw (w .2) (turn-up (l .loop .inv) (search needs) (omega (arith, w .1 .left)))) (λ w. rw (w .1) (turn-same (l .loop .inv) (search needs) (w .0 .left))) (c .if1 .came)
 
-sub-t15 : tie.Need-sub-t15 Inv-loop μ-loop
-sub-t15 c = search needs
+sub-t16 : tie.Need-sub-t16 Inv-loop μ-loop
+sub-t16 c = search needs
 
-div-t16 : tie.Need-div-t16 Inv-loop μ-loop
-div-t16 c = search needs
+div-t17 : tie.Need-div-t17 Inv-loop μ-loop
+div-t17 c = search needs
 
 returns-2 : tie.Need-returns-2 Inv-loop μ-loop
 returns-2 c = next-group (c .before .loop .inv) (stop-end (c .before .loop .inv) (search needs))
@@ -81,14 +81,14 @@ next-group-spec =
     sub-x
     shared-slice-read-x
     shared-slice-read-y
-    sub-t12
-    div-t13
+    sub-t13
+    div-t14
     returns
     add-p
     sub-p
     add-j-2
     loop-less
     loop-again
-    sub-t15
-    div-t16
+    sub-t16
+    div-t17
     returns-2)

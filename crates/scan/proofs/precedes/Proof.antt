@@ -5,25 +5,24 @@ use native.Mathlib.Omega.{arith}
 use borrow.Author.Needs.{needs}
 use lib.ListN.{length, drop}
 use Rattle.words.specs.Order.{less}
-use Rattle.scan.proofs.Compare.{less-ends-first, less-ends-second, less-smaller, less-greater, less-equal}
+use Rattle.scan.proofs.Compare.{less-ends, less-differ, less-equal}
 use Rattle.scan.proofs.precedes.Statement.{statement}
 use Rattle.scan.proofs.precedes.Tie as tie
 use Rattle.scan.proofs.precedes.Reads as reads
 use Rattle.scan.proofs.precedes.Lts as lts
+use Rattle.scan.proofs.shorter.Reads as shorter-reads
 
 abbrev Inv-loop : tie.InvT-loop
-Inv-loop a b k₀ k = (k ≤ length a) × (k ≤ length b) × (less a b ≡ less (drop k a) (drop k b))
+Inv-loop a b end k₀ k = (k ≤ end) × (end ≤ length a) × (end ≤ length b) × (less a b ≡ less (drop k a) (drop k b))
 
 abbrev μ-loop : tie.MeasureT-loop
-μ-loop a b k₀ k = length a - k
+μ-loop a b end k₀ k = end - k
+
+shorter-requires : tie.Need-shorter-requires Inv-loop μ-loop
+shorter-requires c κs = search needs
 
 loop-holds : tie.Need-loop-holds Inv-loop μ-loop
-loop-holds c = (search needs, search needs, refl)
-
-returns : tie.Need-returns Inv-loop μ-loop
-returns c =
-    let l = c .before .before in
-    sym (l .loop .inv .2 ∙ less-ends-second (l .before .args .a .now) (l .before .args .b .now) (l .loop .k) (search needs) (search needs))
+loop-holds c = (search needs, c .shorter .ensures .0, c .shorter .ensures .1, refl)
 
 shared-slice-read-left : tie.Need-shared-slice-read-left Inv-loop μ-loop
 shared-slice-read-left c = search needs
@@ -31,15 +30,11 @@ shared-slice-read-left c = search needs
 shared-slice-read-right : tie.Need-shared-slice-read-right Inv-loop μ-loop
 shared-slice-read-right c = search needs
 
-returns-2 : tie.Need-returns-2 Inv-loop μ-loop
-returns-2 c =
-    let l = c .before .before .before .before .before in
-    sym (l .loop .inv .2 ∙ less-smaller (l .before .args .a .now) (l .before .args .b .now) (l .loop .k) (search needs) (search needs) (search needs))
-
-returns-3 : tie.Need-returns-3 Inv-loop μ-loop
-returns-3 c =
-    let l = c .before .before .before .before .before .before in
-    sym (l .loop .inv .2 ∙ less-greater (l .before .args .a .now) (l .before .args .b .now) (l .loop .k) (search needs) (search needs) (search needs))
+returns : tie.Need-returns Inv-loop μ-loop
+returns c =
+    let l = c .before .before .before .before in
+    let a = l .before .before .before .before .args in
+    sym (l .loop .inv .3 ∙ less-differ (a .a .now) (a .b .now) (l .loop .k) (omega arith) (omega arith) (c .if1 .taken))
 
 add-k : tie.Need-add-k Inv-loop μ-loop
 add-k c = search needs
@@ -49,13 +44,15 @@ loop-less c = search needs
 
 loop-again : tie.Need-loop-again Inv-loop μ-loop
 loop-again c =
-    let l = c .before .before .before .before .before .before in
-    (search needs, search needs, l .loop .inv .2 ∙ less-equal (l .before .args .a .now) (l .before .args .b .now) (l .loop .k) (search needs) (search needs) (omega arith))
+    let l = c .before .before .before .before in
+    let a = l .before .before .before .before .args in
+    (search needs, l .loop .inv .1, l .loop .inv .2, l .loop .inv .3 ∙ less-equal (a .a .now) (a .b .now) (l .loop .k) (omega arith) (omega arith) (c .if1 .left))
 
-returns-4 : tie.Need-returns-4 Inv-loop μ-loop
-returns-4 c =
+returns-2 : tie.Need-returns-2 Inv-loop μ-loop
+returns-2 c =
     let l = c .before in
-    sym (l .loop .inv .2 ∙ less-ends-first (l .before .args .a .now) (l .before .args .b .now) (l .loop .k) (search needs))
+    let a = l .before .before .before .before .args in
+    sym (l .loop .inv .3 ∙ less-ends (a .a .now) (a .b .now) (l .loop .k) (l .before .shorter .result) (search needs) (omega arith) (omega arith) (l .before .shorter .ensures .2))
 
 pub precedes-spec : {M : Type 1} → statement M
 precedes-spec =
@@ -63,13 +60,12 @@ precedes-spec =
     (tie.spec
     Inv-loop
     μ-loop
+    shorter-requires
     loop-holds
-    returns
     shared-slice-read-left
     shared-slice-read-right
-    returns-2
-    returns-3
+    returns
     add-k
     loop-less
     loop-again
-    returns-4)
+    returns-2)

@@ -1,0 +1,145 @@
+// The calls of `lyndon` under C names, on numbers and slices: the answer is the refusal's number, and what else is told goes through `&mut`.
+// Each body is the call and the taking apart of its answer; include/lyndon.h declares them. Slices stand before numbers in every list of
+// parameters: a slice that got the last register and a place on the stack would not be found where Rust puts one.
+use lyndon::factor;
+use lyndon::factor_prefix;
+use lyndon::factor_suffix;
+use lyndon::is_lyndon;
+use lyndon::last_factors;
+use lyndon::least_rotation;
+use lyndon::longest_word;
+use lyndon::longest_words;
+ghost use Rattle.lyndon.specs.Calls.{Factored, ArrayMade, LastFactorsMade, StartsListed, wordPart};
+ghost use Rattle.lyndon.specs.Calls.{LyndonTold, RotationFound, TreeListed, PrefixFactored, SuffixFactored};
+ghost use Rattle.lyndon_c.specs.Copied.{Copied};
+
+#[no_mangle]
+pub extern "C" fn lyndon_factor(pattern: &[u8], groups: &mut [u16], count: &mut usize) -> u8
+    ensures { λ r. ⌜ Factored (now (pattern .entry)) (now (groups .entry)) (now (groups .exit))
+        (record { refusal = r; count = now (count .exit) }) ⌝ }
+{
+    let answer = factor(pattern, groups);
+    *count = answer.count;
+    answer.refusal
+}
+
+#[no_mangle]
+pub extern "C" fn lyndon_array(pattern: &[u8], table: &mut [u16], count: &mut usize) -> u8
+    ensures { λ r. ⌜ ArrayMade (now (pattern .entry)) (now (table .entry)) (now (table .exit))
+        (record { refusal = r; count = now (count .exit) }) ⌝ }
+{
+    let answer = lyndon::lyndon_array(pattern, table);
+    *count = answer.count;
+    answer.refusal
+}
+
+#[no_mangle]
+pub extern "C" fn lyndon_last_factors(pattern: &[u8], table: &mut [u16], count: &mut usize) -> u8
+    ensures { λ r. ⌜ LastFactorsMade (now (pattern .entry)) (now (table .entry)) (now (table .exit))
+        (record { refusal = r; count = now (count .exit) }) ⌝ }
+{
+    let answer = last_factors(pattern, table);
+    *count = answer.count;
+    answer.refusal
+}
+
+#[no_mangle]
+pub extern "C" fn lyndon_longest_words(
+    pattern: &[u8],
+    starts: &mut [u16],
+    size: &mut usize,
+    count: &mut usize,
+) -> u8
+    ensures { λ r. ⌜ StartsListed (now (pattern .entry)) (now (starts .entry)) (now (starts .exit))
+        (record { refusal = r; length = now (size .exit); count = now (count .exit) }) ⌝ }
+{
+    let answer = longest_words(pattern, starts);
+    *size = answer.length;
+    *count = answer.count;
+    answer.refusal
+}
+
+// Copies a part to the front of a buffer, and answers 8 where the buffer is shorter.
+fn copy(part: &[u8], buffer: &mut [u8], size: &mut usize) -> u8
+    ensures { λ r. ⌜ Copied (now (part .entry)) (now (buffer .entry)) (now (buffer .exit)) r (now (size .exit)) ⌝ }
+{
+    if buffer.len() < part.len() {
+        *size = 0;
+        return 8;
+    }
+    let mut k = 0;
+    while k < part.len() {
+        buffer[k] = part[k];
+        k += 1;
+    }
+    *size = part.len();
+    0
+}
+
+// The part is copied to a buffer of the caller's, since a reference is no answer for C.
+#[no_mangle]
+pub extern "C" fn lyndon_longest_word(pattern: &[u8], word: &mut [u8], size: &mut usize) -> u8
+    ensures { λ r. ⌜ Copied (wordPart (now (pattern .entry))) (now (word .entry)) (now (word .exit)) r (now (size .exit)) ⌝ }
+{
+    copy(longest_word(pattern), word, size)
+}
+
+#[no_mangle]
+pub extern "C" fn lyndon_is_lyndon(word: &[u8], yes: &mut bool) -> u8
+    ensures { λ r. ⌜ LyndonTold (now (word .entry)) (record { refusal = r; yes = now (yes .exit) }) ⌝ }
+{
+    let answer = is_lyndon(word);
+    *yes = answer.yes;
+    answer.refusal
+}
+
+#[no_mangle]
+pub extern "C" fn lyndon_least_rotation(pattern: &[u8], start: &mut usize) -> u8
+    ensures { λ r. ⌜ RotationFound (now (pattern .entry)) (record { refusal = r; start = now (start .exit) }) ⌝ }
+{
+    let answer = least_rotation(pattern);
+    *start = answer.start;
+    answer.refusal
+}
+
+#[no_mangle]
+pub extern "C" fn lyndon_tree(word: &[u8], nodes: &mut [u16], count: &mut usize) -> u8
+    ensures { λ r. ⌜ TreeListed (now (word .entry)) (now (nodes .entry)) (now (nodes .exit))
+        (record { refusal = r; count = now (count .exit) }) ⌝ }
+{
+    let answer = lyndon::lyndon_tree(word, nodes);
+    *count = answer.count;
+    answer.refusal
+}
+
+#[no_mangle]
+pub extern "C" fn lyndon_factor_prefix(
+    pattern: &[u8],
+    table: &[u16],
+    groups: &mut [u16],
+    end: usize,
+    count: &mut usize,
+) -> u8
+    ensures { λ r. ⌜ PrefixFactored (now (pattern .entry)) (now (table .entry)) end (now (groups .entry)) (now (groups .exit))
+        (record { refusal = r; count = now (count .exit) }) ⌝ }
+{
+    let answer = factor_prefix(pattern, table, end, groups);
+    *count = answer.count;
+    answer.refusal
+}
+
+#[no_mangle]
+pub extern "C" fn lyndon_factor_suffix(
+    pattern: &[u8],
+    table: &[u16],
+    groups: &mut [u16],
+    start: usize,
+    count: &mut usize,
+) -> u8
+    ensures { λ r. ⌜ SuffixFactored (now (pattern .entry)) (now (table .entry)) start (now (groups .entry)) (now (groups .exit))
+        (record { refusal = r; count = now (count .exit) }) ⌝ }
+{
+    let answer = factor_suffix(pattern, table, start, groups);
+    *count = answer.count;
+    answer.refusal
+}

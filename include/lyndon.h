@@ -1,0 +1,82 @@
+/* The pattern engine for C: the functions of liblyndon_c.a, which `rt staticlib lyndon_c` writes to target/staticlib/ (x86-64 Linux).
+ *
+ * Every function answers a refusal's number, 0 where nothing is refused. Bytes compare as unsigned numbers; positions count from 0.
+ * Nothing is asked of the values: any pattern, position, table content and length is answered.
+ *
+ * A slice is two arguments, a pointer to its first entry and its length in entries. What C must see to, since nothing tests it:
+ *   - no pointer is NULL, not even with length 0, and each is aligned for its type;
+ *   - the entries behind a pointer are there, and they are initialised (a row that is only written, and a number, too);
+ *   - what is written overlaps nothing else that is passed to the same call.
+ *
+ * A row that a result is written to may be longer than the result: the entries behind it keep their values. A refused call leaves every
+ * row as it was and sets the numbers beside it to 0 (false).
+ */
+#ifndef LYNDON_H
+#define LYNDON_H
+
+#include <stdbool.h>
+#include <stddef.h>
+#include <stdint.h>
+
+#ifdef __cplusplus
+extern "C" {
+#endif
+
+/* The longest pattern, and the longest word of a tree, in bytes. */
+#define LYNDON_MAX_PATTERN 4096
+#define LYNDON_MAX_TREE 256
+
+/* The refusals. Of two that apply, the smaller number is answered. */
+#define LYNDON_ACCEPTED 0
+#define LYNDON_PATTERN_TOO_LONG 1   /* over LYNDON_MAX_PATTERN bytes */
+#define LYNDON_PAST_END 2           /* a position past the end of the pattern; its length itself is a position */
+#define LYNDON_NOT_THE_TABLE 5      /* the lent table is shorter than the pattern, or one of its first pattern_len entries is not the pattern's */
+#define LYNDON_WORD_TOO_LONG 6      /* over LYNDON_MAX_TREE bytes */
+#define LYNDON_NOT_LYNDON 7         /* the string is no Lyndon word */
+#define LYNDON_ROW_TOO_SHORT 8      /* the result has more entries than the row */
+
+/* The groups of equal neighbouring factors: start, length of one factor, power. Sets *count to the number of groups.
+ * Row: 3 entries a group; 3 * pattern_len are always enough. Refusals 1, 8. */
+uint8_t lyndon_factor(const uint8_t *pattern, size_t pattern_len, uint16_t *groups, size_t groups_len, size_t *count);
+
+/* The Lyndon array: entry i is the length of the longest Lyndon word that starts at i. Sets *count to pattern_len.
+ * Row: pattern_len entries. Refusals 1, 8. */
+uint8_t lyndon_array(const uint8_t *pattern, size_t pattern_len, uint16_t *table, size_t table_len, size_t *count);
+
+/* The last factors: entry q - 1 is the length of the last factor of the first q bytes. Sets *count to pattern_len.
+ * Row: pattern_len entries. Refusals 1, 8. */
+uint8_t lyndon_last_factors(const uint8_t *pattern, size_t pattern_len, uint16_t *table, size_t table_len, size_t *count);
+
+/* The starts of all longest Lyndon words in the pattern. Sets *size to their length and *count to the number of starts.
+ * Row: an entry for each start; pattern_len are always enough. Refusals 1, 8. */
+uint8_t lyndon_longest_words(const uint8_t *pattern, size_t pattern_len, uint16_t *starts, size_t starts_len, size_t *size, size_t *count);
+
+/* Copies the first of the longest Lyndon words to `word`, and sets *size to its length. It is empty where the pattern is empty, and
+ * where it is too long: that has no number here. Row: a byte for each of the word's; pattern_len are always enough. Refusal 8. */
+uint8_t lyndon_longest_word(const uint8_t *pattern, size_t pattern_len, uint8_t *word, size_t word_len, size_t *size);
+
+/* Sets *yes to whether the string is a Lyndon word; the empty one is none. Refusal 1. */
+uint8_t lyndon_is_lyndon(const uint8_t *word, size_t word_len, bool *yes);
+
+/* Sets *start to the smallest start of a least rotation, 0 for the empty pattern. Refusal 1. */
+uint8_t lyndon_least_rotation(const uint8_t *pattern, size_t pattern_len, size_t *start);
+
+/* The nodes of a Lyndon word's tree: start, length. Sets *count to their number, 2 * word_len - 1.
+ * Row: 4 * word_len - 2 entries. Refusals 6, 7, 8; the empty word is refused by 7. */
+uint8_t lyndon_tree(const uint8_t *word, size_t word_len, uint16_t *nodes, size_t nodes_len, size_t *count);
+
+/* The groups of the factors of the first `end` bytes, given the pattern's last factors; as lyndon_factor writes them.
+ * Row: 3 entries a group; 3 * end are always enough. Refusals 1, 2, 5, 8. */
+uint8_t lyndon_factor_prefix(const uint8_t *pattern, size_t pattern_len, const uint16_t *last_factors, size_t last_factors_len,
+                             uint16_t *groups, size_t groups_len, size_t end, size_t *count);
+
+/* The groups of the factors of the bytes from `start` on, given the pattern's Lyndon array; starts are places in the whole pattern.
+ * Row: 3 entries a group; 3 * (pattern_len - start) are always enough. Refusals 1, 2, 5, 8. */
+uint8_t lyndon_factor_suffix(const uint8_t *pattern, size_t pattern_len, const uint16_t *lyndon_array, size_t lyndon_array_len,
+                             uint16_t *groups, size_t groups_len, size_t start, size_t *count);
+
+#ifdef __cplusplus
+}
+#endif
+
+#endif
