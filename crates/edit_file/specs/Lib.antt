@@ -1,0 +1,3 @@
+-- Reading order: EditFile, Fields.
+pub mod EditFile
+pub mod Fields

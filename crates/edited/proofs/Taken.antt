@@ -1,0 +1,80 @@
+-- What an answered edit hands to the writer of the edited listing.
+use mathlib.Core.List.{List, [], _∷_, _++_}
+use mathlib.Core.Path.{_≡_, refl, sym, ap, _∙_}
+use Prim.Native.Nat.{ℕ, zero, suc, _+_, _-_, _*_, _≤_}
+use native.Mathlib.Omega.{arith}
+use lib.ListN.{length, take, drop, length-append}
+use lib.Seq.{take-at, length-take-le}
+use Rattle.edit.proofs.Passed.{first-earlier, passed-shape}
+use Rattle.edit.proofs.Refused.{Shaped}
+use Rattle.edit.specs.Core.{editRefusals, countsOf}
+use Rattle.edit.specs.declared.Answer.{Answer}
+use Rattle.edit.specs.declared.Answer.the-variants.{Done}
+use Rattle.edit.specs.declared.Counts.{Counts}
+use Rattle.edited_text.specs.Parts.{Answered, Writes}
+use Rattle.lyndon_edit.proofs.Answered.{done-accepted}
+use Rattle.lyndon_edit.specs.Calls.{EditsNumbers}
+use Rattle.refusals.specs.Refusals.{Refusal, firstOf, rowAfter, tooShort}
+use Rattle.text.proofs.EditedLength.{edited-room}
+use Rattle.text.specs.Listing.{editedText}
+use Rattle.scan.proofs.Pass.{length-numbers}
+use Rattle.words.proofs.Edit.{length-edited}
+use Rattle.words.specs.Edit.{edited, middleGroups}
+use Rattle.words.specs.Factors.{groupNumbers}
+use Rattle.words.specs.Tables.{longestStarts}
+
+first-zero : (xs ys : List Refusal) → firstOf (xs ++ ys) ≡ 0 → firstOf xs ≡ 0
+first-zero xs ys e = go (firstOf xs) refl
+  where
+    go : (k : ℕ) → firstOf xs ≡ k → firstOf xs ≡ 0
+    go zero h = h
+    go (suc k) h = absurd (omega (arith, e, first-earlier xs ys h))
+
+row-written : (k : ℕ) (out row : List ℕ) → k ≡ 0 → rowAfter k out row ≡ out ++ drop (length out) row
+row-written zero out row e = refl
+row-written (suc k) out row e = absurd (omega (arith, e))
+
+module _ {s array last : List ℕ} {from to : ℕ} {b row row′ starts starts′ : List ℕ} {r : Answer} {c : Counts}
+    (e : EditsNumbers s array last from to b row row′ starts starts′ r) (done : r ≡ Done c) where
+  abbrev rooms : List Refusal
+  rooms =
+      tooShort (length (groupNumbers (middleGroups s from to b))) (length row)
+      ∷ tooShort (length (longestStarts (edited s from to b))) (length starts) ∷ []
+
+  accepted : (firstOf (editRefusals s array last from to b ++ rooms) ≡ 0) × (countsOf s from to b ≡ c)
+  accepted =
+      done-accepted (firstOf (editRefusals s array last from to b ++ rooms)) (countsOf s from to b) c (sym (e .fills .answers) ∙ done)
+
+  counts : c ≡ countsOf s from to b
+  counts = sym (accepted .1)
+
+  shape : Shaped s from to b
+  shape = passed-shape s array last from to b refl (first-zero (editRefusals s array last from to b) rooms (accepted .0))
+
+  groups-counted : c .groups ≡ length (middleGroups s from to b)
+  unfolding countsOf
+  groups-counted = ap (λ x. x .groups) counts
+
+  pub taken : Answered s from to b c row′
+  taken =
+      let out = groupNumbers (middleGroups s from to b) in
+      let w = e .fills .middle ∙ row-written (firstOf (editRefusals s array last from to b ++ rooms)) out row (accepted .0) in
+      let n : length out ≡ 3 * c .groups = length-numbers (middleGroups s from to b) ∙ ap (λ k. 3 * k) (sym groups-counted) in
+      record {
+        start = shape .start;
+        stretch = shape .stretch;
+        fits = omega (arith, length-edited s from to b (shape .start) (shape .stretch), shape .fits);
+        numbers = counts;
+        groups = ap (take (3 * c .groups)) w ∙ take-at out (drop (length out) row) (3 * c .groups) n;
+      }
+
+-- the buffer suffices, and what is counted lies within it
+pub text-room : {s : List ℕ} {from to : ℕ} {b : List ℕ} {c : Counts} {row : List ℕ} → Answered s from to b c row → length (editedText s from to b) ≤ 77849
+text-room {s} {from} {to} {b} a = edited-room s from to b (a .start) (a .stretch) (a .fits)
+
+module _ {s : List ℕ} {from to : ℕ} {b buffer buffer′ : List ℕ} {n : ℕ} (w : Writes s from to b buffer buffer′ n) where
+  pub text-within : n ≤ length buffer′
+  text-within = omega (arith, w .size, ap length (w .leaves), length-append (editedText s from to b) (drop (length (editedText s from to b)) buffer))
+
+  pub text-long : n ≡ length (take n buffer′)
+  text-long = sym (length-take-le n buffer′ text-within)

@@ -1,0 +1,13 @@
+-- A byte as two capital hexadecimal digits.
+use mathlib.Core.Bool.{cond}
+use mathlib.Core.List.{List, [], _∷_}
+use Prim.Native.Nat.{ℕ, _+_, _/_, _%_}
+use lib.Dec.{ltb}
+
+-- The ASCII code of a digit below 16: 0 to 9, then A to F.
+abbrev pub digitOf : ℕ → ℕ
+digitOf d = cond (ltb d 10) (48 + d) (55 + d)
+
+-- The digits of a byte, the high one first.
+unfoldable pub pairOf : ℕ → List ℕ
+pairOf b = digitOf (b / 16) ∷ digitOf (b % 16) ∷ []

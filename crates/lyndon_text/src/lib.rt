@@ -1,0 +1,27 @@
+// The public library's listing of a pattern. It tests its refusals in number order and then calls `text`, which does the work.
+use lyndon::Filled;
+use refusals::MAX_PATTERN;
+use text::listing_length;
+use text::write_text;
+ghost use Rattle.lyndon_text.specs.Calls.{ListingWritten};
+
+// The listing of the pattern's groups, as CSV; the count is of bytes. Refusals 1, 8.
+pub fn write_listing(pattern: &[u8], text: &mut [u8]) -> Filled
+    ensures { λ r. ⌜ ListingWritten (now (pattern .entry)) (now (text .entry)) (now (text .exit)) r ⌝ }
+{
+    if MAX_PATTERN < pattern.len() {
+        return Filled {
+            refusal: 1,
+            count: 0,
+        };
+    }
+    let count = listing_length(pattern);
+    if text.len() < count {
+        return Filled {
+            refusal: 8,
+            count: 0,
+        };
+    }
+    write_text(pattern, text);
+    Filled { refusal: 0, count }
+}

@@ -1,0 +1,95 @@
+-- A line as its writer makes it, field by field, and the lines of a pass over the groups.
+use mathlib.Core.List.{List, [], _∷_, _++_}
+use mathlib.Core.Path.{_≡_, sym, ap, _∙_}
+use Prim.Native.Nat.{ℕ, _+_, _-_, _*_, _≤_, _<_}
+use native.Mathlib.Omega.{arith}
+use lib.ListN.{length, take, drop, length-append, length-drop}
+use lib.Seq.{length-take-le}
+use Rattle.rows.specs.Row.{written}
+use Rattle.rows.proofs.Wrote.{Wrote, wrote-part, wrote-room}
+use Rattle.scan.specs.Group.{NextGroup}
+use Rattle.scan.proofs.Next.{groups-start}
+use Rattle.scan.proofs.Pass.{length-fits}
+use Rattle.words.specs.Tables.{suffixGroups}
+use Rattle.text.specs.Decimal.{codes, decimal, hexadecimal}
+use Rattle.text.specs.Listing.{header, lineEnd, field, line, lines, listingText, refusalText}
+use Rattle.text.specs.Written.{Room, Puts}
+use Rattle.text.proofs.Decimal.{count-least, length-decimal}
+use Rattle.text.proofs.Lengths.{length-header, line-parts}
+use Rattle.text.proofs.Puts.{puts-then}
+
+pub line-put : (start power : ℕ) (word d : List ℕ) (i : ℕ) {b₁ b₂ b₃ b₄ b₅ : List ℕ} {n₁ n₂ n₃ n₄ n₅ : ℕ}
+    → Room (line start (length word) power word) i d → Puts (field start) i d b₁ n₁ → Puts (field (length word)) n₁ b₁ b₂ n₂
+    → Puts (field power) n₂ b₂ b₃ n₃ → Puts (hexadecimal word) n₃ b₃ b₄ n₄ → Puts lineEnd n₄ b₄ b₅ n₅
+    → Puts (line start (length word) power word) i d b₅ n₅
+unfolding line
+line-put start power word d i h p₁ p₂ p₃ p₄ p₅ =
+    let n = line-parts start power word in
+    let two = field start ++ field (length word) in
+    let three = two ++ field power in
+    let m₂ = length-append (field start) (field (length word)) in
+    let m₃ = length-append two (field power) in
+    let m₄ = length-append three (hexadecimal word) in
+    let q₂ = puts-then p₁ p₂ (omega arith) in
+    let q₃ = puts-then q₂ p₃ (omega arith) in
+    let q₄ = puts-then q₃ p₄ (omega arith) in
+    puts-then q₄ p₅ (omega arith)
+
+-- the part of s from i to j
+abbrev part : List ℕ → ℕ → ℕ → List ℕ
+part s i j = take (j - i) (drop i s)
+
+-- one turn of a pass over the groups of s: the line of the group at i, and the lines that are left
+module _ {s : List ℕ} {i l e : ℕ} (g : NextGroup s i l e) where
+  abbrev first : List ℕ
+  first = line i (length (part s i (i + l))) e (part s i (i + l))
+
+  abbrev rest : List ℕ
+  rest = lines s (suffixGroups s (i + e * l))
+
+  lines-left : lines s (suffixGroups s i) ≡ first ++ rest
+  lines-left =
+      let n : i + l - i ≡ l = omega arith in
+      let m : length (take l (drop i s)) ≡ l = length-take-le l (drop i s) (omega (arith, length-drop i s, length-fits g, g .fits)) in
+      ap (lines s) (g .group) ∙ rw (n, m)
+
+  pub line-room : {out d b : List ℕ} {n : ℕ} → Wrote out d b n (lines s (suffixGroups s i)) → Room first n b
+  line-room w = omega (arith, wrote-room w, ap length lines-left, length-append first rest)
+
+  pub line-turn : {out d b b′ : List ℕ} {n m : ℕ} → Wrote out d b n (lines s (suffixGroups s i)) → Puts first n b b′ m → Wrote out d b′ m rest
+  line-turn w p = rw (p .next, p .leaves) (wrote-part first (rw lines-left at w))
+
+  pub measure-turn : (k total : ℕ) → k + length (lines s (suffixGroups s i)) ≡ total → k + length first + length rest ≡ total
+  measure-turn k total h = omega (arith, ap length lines-left, length-append first rest)
+
+-- the listing: the header, then the lines of all groups
+pub listing-parts : (s : List ℕ) → listingText s ≡ header ++ lines s (suffixGroups s 0)
+unfolding listingText
+listing-parts s = ap (λ gs. header ++ lines s gs) (groups-start s)
+
+pub listing-length : (s : List ℕ) → length (listingText s) ≡ 25 + length (lines s (suffixGroups s 0))
+listing-length s =
+    let rest = lines s (suffixGroups s 0) in
+    ap length (listing-parts s) ∙ length-append header rest ∙ ap (λ n. n + length rest) length-header
+
+pub listing-put : (s d : List ℕ) {b b′ : List ℕ} {n m : ℕ} → length (listingText s) ≤ length d → Puts header 0 d b n
+    → Puts (lines s (suffixGroups s 0)) n b b′ m → b′ ≡ written (listingText s) d
+listing-put s d h p q =
+    puts-then p q (omega (arith, listing-length s, length-header)) .leaves ∙ ap (λ text. written text d) (sym (listing-parts s))
+
+-- the refusal line
+pub refusal-parts : (number : ℕ) → length (refusalText number) ≡ 8 + length (decimal number) + 2
+unfolding refusalText
+refusal-parts number = simp length-append
+
+-- numbers of refusals have at most three digits
+pub refusal-room : (number : ℕ) → number < 1000 → length (refusalText number) ≤ 13
+refusal-room number h = omega (arith, refusal-parts number, length-decimal number, count-least number 2 (omega arith))
+
+pub refusal-put : (number : ℕ) (d : List ℕ) {b₁ b₂ b₃ : List ℕ} {n₁ n₂ n₃ : ℕ} → Room (refusalText number) 0 d
+    → Puts (codes "refused,") 0 d b₁ n₁ → Puts (decimal number) n₁ b₁ b₂ n₂ → Puts lineEnd n₂ b₂ b₃ n₃ → Puts (refusalText number) 0 d b₃ n₃
+unfolding refusalText
+refusal-put number d h p₁ p₂ p₃ =
+    let n = refusal-parts number in
+    let m = length-append (codes "refused,") (decimal number) in
+    puts-then (puts-then p₁ p₂ (omega arith)) p₃ (omega arith)

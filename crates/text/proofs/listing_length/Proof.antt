@@ -1,0 +1,22 @@
+-- `text::listing_length` meets its contract: the header and the lines.
+use Rattle.text.proofs.Lengths.{suffix-most}
+use Rattle.text.proofs.Lines.{listing-length}
+use borrow.Author.Needs.{needs}
+use native.Mathlib.Omega.{arith}
+use Rattle.text.proofs.listing_length.Statement.{statement}
+use Rattle.text.proofs.listing_length.Tie as tie
+use Rattle.text.proofs.listing_length.Reads as reads
+use Rattle.text.proofs.listing_length.Lts as lts
+use Rattle.text.proofs.lines_length.Reads as lines-length-reads
+
+lines-length-requires : tie.Need-lines-length-requires
+lines-length-requires c κs = search needs
+
+add-result : tie.Need-add-result
+add-result c = omega (arith, suffix-most (c .before .before .args .s .now) 0 (search needs) (search needs))
+
+returns : tie.Need-returns
+returns c = omega (arith, listing-length (c .before .before .args .s .now))
+
+pub listing-length-spec : {M : Type 1} → statement M
+listing-length-spec = tie.close (tie.spec lines-length-requires add-result returns)

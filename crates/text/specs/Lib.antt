@@ -1,0 +1,4 @@
+-- Reading order: Decimal, Listing, Written.
+pub mod Decimal
+pub mod Listing
+pub mod Written

@@ -1,0 +1,49 @@
+-- The two listings and the refusal line, as CSV by RFC 4180: each line is closed by carriage return and line feed.
+use mathlib.Core.List.{List, [], _∷_, _++_}
+use Prim.Native.Nat.{ℕ}
+use lib.ListN.{take, drop}
+use Rattle.words.specs.Factors.{factors, Group, groupsFrom}
+use Rattle.words.specs.Tables.{groups}
+use Rattle.words.specs.Edit.{edited, place, kept, resume, middleGroups}
+use Rattle.text.specs.Decimal.{codes, decimal, hexadecimal}
+
+abbrev pub lineEnd : List ℕ
+lineEnd = codes "\r\n"
+
+unfoldable pub header : List ℕ
+header = codes "start,length,power,word" ++ lineEnd
+
+-- A number and the comma behind it.
+abbrev pub field : ℕ → List ℕ
+field n = decimal n ++ codes ","
+
+-- The line of a group: start, factor length, power, and the factor's bytes.
+unfoldable pub line : ℕ → ℕ → ℕ → List ℕ → List ℕ
+line start size power word = field start ++ field size ++ field power ++ hexadecimal word ++ lineEnd
+
+-- The lines of groups of factors of t, in order.
+abbrev pub lines : List ℕ → List Group → List ℕ
+lines t [] = []
+lines t (g ∷ gs) = line (g .start) (g .size) (g .power) (take (g .size) (drop (g .start) t)) ++ lines t gs
+
+-- The listing of a pattern: the header, then a line per group.
+unfoldable pub listingText : List ℕ → List ℕ
+listingText s = header ++ lines s (groups s)
+
+-- The edited listing: kept, middle and resumed factors, each part grouped on its own; starts are places in the edited pattern.
+unfoldable pub keptGroups : List ℕ → ℕ → ℕ → List ℕ → List Group
+keptGroups s from to b = groupsFrom 0 (take (kept s from to b) (factors s))
+
+unfoldable pub resumedGroups : List ℕ → ℕ → ℕ → List ℕ → List Group
+resumedGroups s from to b =
+    let p = resume s from to b in
+    groupsFrom (place from to b p) (factors (drop p s))
+
+unfoldable pub editedText : List ℕ → ℕ → ℕ → List ℕ → List ℕ
+editedText s from to b =
+    let t = edited s from to b in
+    header ++ lines t (keptGroups s from to b) ++ lines t (middleGroups s from to b) ++ lines t (resumedGroups s from to b)
+
+-- All that is printed where a refusal holds.
+unfoldable pub refusalText : ℕ → List ℕ
+refusalText number = codes "refused," ++ decimal number ++ lineEnd

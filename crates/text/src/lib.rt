@@ -1,0 +1,178 @@
+// The text of the listings, measured and written into a lent buffer: numbers in decimal, words in hexadecimal, lines, and the pass over
+// the groups of a pattern. That the buffer is long enough is the caller's concern.
+use hex::pair_of;
+use scan::next_group;
+ghost use mathlib.Core.Path.{_≡_};
+ghost use Prim.Native.Nat.{_<_, _≤_};
+ghost use lib.ListN.{length};
+ghost use Rattle.rows.specs.Row.{written};
+ghost use Rattle.words.specs.Tables.{suffixGroups};
+ghost use Rattle.text.specs.Decimal.{decimal, hexadecimal};
+ghost use Rattle.text.specs.Listing.{header, field, line, lines, listingText, refusalText};
+ghost use Rattle.text.specs.Written.{Room, Puts};
+
+// The first line of every listing.
+pub const HEADER: [u8; 25] = *b"start,length,power,word\r\n";
+
+const LINE_END: [u8; 2] = *b"\r\n";
+
+const REFUSED: [u8; 8] = *b"refused,";
+
+// How many digits a number has in decimal.
+fn digit_count(n: usize) -> usize
+    ensures { λ r. ⌜ r ≡ length (decimal n) ⌝ }
+{
+    let mut count = 1;
+    let mut rest = n;
+    while 10 <= rest {
+        rest /= 10;
+        count += 1;
+    }
+    count
+}
+
+// Writes a number in decimal, the last digit first.
+fn write_decimal(n: usize, buffer: &mut [u8], at: usize) -> usize
+    requires { ⌜ Room (decimal n) at (now buffer) ⌝ }
+    ensures { λ r. ⌜ Puts (decimal n) at (now (buffer .entry)) (now (buffer .exit)) r ⌝ }
+{
+    let end = at + digit_count(n);
+    let mut i = end;
+    let mut rest = n;
+    while at < i {
+        i -= 1;
+        buffer[i] = 48 + (rest % 10) as u8;
+        rest /= 10;
+    }
+    end
+}
+
+// Writes bytes as they are.
+fn write_bytes(bytes: &[u8], buffer: &mut [u8], at: usize) -> usize
+    requires { ⌜ Room (now bytes) at (now buffer) ⌝ }
+    ensures { λ r. ⌜ Puts (now (bytes .entry)) at (now (buffer .entry)) (now (buffer .exit)) r ⌝ }
+{
+    let mut next = at;
+    let mut k = 0;
+    while k < bytes.len() {
+        buffer[next] = bytes[k];
+        next += 1;
+        k += 1;
+    }
+    next
+}
+
+// Writes the bytes of a word in hexadecimal.
+fn write_word(word: &[u8], buffer: &mut [u8], at: usize) -> usize
+    requires { ⌜ Room (hexadecimal (now word)) at (now buffer) ⌝ }
+    ensures { λ r. ⌜ Puts (hexadecimal (now (word .entry))) at (now (buffer .entry)) (now (buffer .exit)) r ⌝ }
+{
+    let mut next = at;
+    let mut k = 0;
+    while k < word.len() {
+        let pair = pair_of(word[k] as usize);
+        buffer[next] = pair[0];
+        buffer[next + 1] = pair[1];
+        next += 2;
+        k += 1;
+    }
+    next
+}
+
+// Writes a number and the comma behind it.
+fn write_field(n: usize, buffer: &mut [u8], at: usize) -> usize
+    requires { ⌜ Room (field n) at (now buffer) ⌝ }
+    ensures { λ r. ⌜ Puts (field n) at (now (buffer .entry)) (now (buffer .exit)) r ⌝ }
+{
+    let end = write_decimal(n, buffer, at);
+    buffer[end] = b',';
+    end + 1
+}
+
+// Writes the line of a group whose factors are this word.
+pub fn write_line(start: usize, power: usize, word: &[u8], buffer: &mut [u8], at: usize) -> usize
+    requires { ⌜ Room (line start (length (now word)) power (now word)) at (now buffer) ⌝ }
+    ensures { λ r. ⌜ Puts (line start (length (now (word .entry))) power (now (word .entry))) at (now (buffer .entry)) (now (buffer .exit)) r ⌝ }
+{
+    let first = write_field(start, buffer, at);
+    let second = write_field(word.len(), buffer, first);
+    let third = write_field(power, buffer, second);
+    let last = write_word(word, buffer, third);
+    write_bytes(&LINE_END, buffer, last)
+}
+
+// The length of that line.
+pub fn line_length(start: usize, power: usize, word: &[u8]) -> usize
+    requires { ⌜ length (line start (length (now word)) power (now word)) < 18446744073709551616 ⌝ }
+    ensures { λ r. ⌜ r ≡ length (line start (length (now (word .entry))) power (now (word .entry))) ⌝ }
+{
+    let size = word.len();
+    digit_count(start) + digit_count(size) + digit_count(power) + 2 * size + 5
+}
+
+// Writes the lines of a pattern's groups from a place on.
+pub fn write_lines(s: &[u8], from: usize, buffer: &mut [u8], at: usize) -> usize
+    requires { ⌜ (from ≤ length (now s)) × Room (lines (now s) (suffixGroups (now s) from)) at (now buffer) ⌝ }
+    ensures { λ r. ⌜ Puts (lines (now (s .entry)) (suffixGroups (now (s .entry)) from)) at (now (buffer .entry)) (now (buffer .exit)) r ⌝ }
+{
+    let mut next = at;
+    let mut start = from;
+    while start < s.len() {
+        let g = next_group(s, start);
+        let end = start + g.length;
+        next = write_line(start, g.power, &s[start..end], buffer, next);
+        start += g.power * g.length;
+    }
+    next
+}
+
+// The length of these lines.
+pub fn lines_length(s: &[u8], from: usize) -> usize
+    requires { ⌜ (length (now s) ≤ 65535) × (from ≤ length (now s)) ⌝ }
+    ensures { λ r. ⌜ r ≡ length (lines (now (s .entry)) (suffixGroups (now (s .entry)) from)) ⌝ }
+{
+    let mut total = 0;
+    let mut i = from;
+    while i < s.len() {
+        let g = next_group(s, i);
+        let end = i + g.length;
+        total += line_length(i, g.power, &s[i..end]);
+        i += g.power * g.length;
+    }
+    total
+}
+
+// Writes the header to the front of the buffer.
+pub fn write_header(buffer: &mut [u8]) -> usize
+    requires { ⌜ Room header 0 (now buffer) ⌝ }
+    ensures { λ r. ⌜ Puts header 0 (now (buffer .entry)) (now (buffer .exit)) r ⌝ }
+{
+    write_bytes(&HEADER, buffer, 0)
+}
+
+// The length of a pattern's listing.
+pub fn listing_length(s: &[u8]) -> usize
+    requires { ⌜ length (now s) ≤ 65535 ⌝ }
+    ensures { λ r. ⌜ r ≡ length (listingText (now (s .entry))) ⌝ }
+{
+    HEADER.len() + lines_length(s, 0)
+}
+
+// Writes a pattern's listing to the front of the buffer.
+pub fn write_text(s: &[u8], buffer: &mut [u8])
+    requires { ⌜ length (listingText (now s)) ≤ length (now buffer) ⌝ }
+    ensures { λ _. ⌜ now (buffer .exit) ≡ written (listingText (now (s .entry))) (now (buffer .entry)) ⌝ }
+{
+    let at = write_header(buffer);
+    write_lines(s, 0, buffer, at);
+}
+
+// Writes all that is printed for a refusal to the front of the buffer.
+pub fn write_refusal(number: usize, buffer: &mut [u8]) -> usize
+    requires { ⌜ Room (refusalText number) 0 (now buffer) ⌝ }
+    ensures { λ r. ⌜ Puts (refusalText number) 0 (now (buffer .entry)) (now (buffer .exit)) r ⌝ }
+{
+    let first = write_bytes(&REFUSED, buffer, 0);
+    let second = write_decimal(number, buffer, first);
+    write_bytes(&LINE_END, buffer, second)
+}

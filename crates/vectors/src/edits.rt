@@ -1,0 +1,152 @@
+// The answer to edits: the trainer's sheet, both ends, edges of length, refusals of which later ones hold too, wrong entries of the tables,
+// and positions at the largest `usize`. Rows have room for so many groups and places.
+ghost use Prim.Native.Nat.{_≤_};
+use crate::calls::OLD;
+use crate::show;
+use edit::Answer;
+use lyndon_edit::edit_numbers;
+
+// The tables of acbabcabcabac.
+const REACH: [u16; 13] = [3, 1, 1, 3, 2, 1, 3, 2, 1, 4, 1, 2, 1];
+
+const LAST: [u16; 13] = [1, 2, 3, 1, 2, 3, 1, 2, 3, 1, 2, 1, 4];
+
+fn least(a: usize, b: usize) -> usize
+    ensures { λ r. ⌜ r ≤ a ⌝ }
+    ensures { λ r. ⌜ r ≤ b ⌝ }
+{
+    if a < b { a } else { b }
+}
+
+fn answer(a: Answer) {
+    show::text(b":");
+    match a {
+        Answer::Done(c) => {
+            show::number(b"kept", c.kept as u64);
+            show::number(b"resume", c.resume as u64);
+            show::number(b"groups", c.groups as u64);
+            show::number(b"length", c.length as u64);
+            show::number(b"starts", c.starts as u64);
+        }
+        Answer::Refused(number) => show::number(b"refusal", number as u64),
+    }
+}
+
+fn edit_with(
+    pattern: &[u8],
+    array: &[u16],
+    last: &[u16],
+    from: usize,
+    to: usize,
+    block: &[u8],
+    groups: usize,
+    places: usize,
+) {
+    show::text(b"edit");
+    show::word(pattern);
+    show::number(b"from", from as u64);
+    show::number(b"to", to as u64);
+    show::text(b" block");
+    show::word(block);
+    let mut space = [OLD; 810];
+    let n = 3 * least(groups, 270);
+    let middle = &mut space[0..n];
+    let mut more = [OLD; 4096];
+    let p = least(places, 4096);
+    let starts = &mut more[0..p];
+    let a = edit_numbers(pattern, array, last, from, to, block, middle, starts);
+    answer(a);
+    show::row(b"middle", middle);
+    show::row(b"places", starts);
+    show::text(b"\n");
+}
+
+// With the pattern's own tables.
+fn edit(pattern: &[u8], from: usize, to: usize, block: &[u8], groups: usize, places: usize) {
+    let mut array = [0; 4096];
+    let mut last = [0; 4096];
+    lyndon::lyndon_array(pattern, &mut array);
+    lyndon::last_factors(pattern, &mut last);
+    edit_with(pattern, &array, &last, from, to, block, groups, places);
+}
+
+fn sheet() {
+    show::heading(b"P5 to P9, P12 and P13");
+    edit(b"acbabcabcabac", 5, 6, b"b", 1, 1);
+    edit(b"acbabcabcabac", 11, 11, b"a", 2, 4);
+    edit(b"acbabcabcabac", 9, 10, b"", 1, 1);
+    edit(b"acbabcabcabac", 1, 3, b"bac", 1, 1);
+    edit(b"acbabcabcabac", 7, 10, b"", 2, 2);
+    edit(b"aa", 1, 1, b"a", 1, 3);
+    edit(b"aba", 3, 3, b"c", 1, 1);
+}
+
+fn ends() {
+    show::heading(b"both ends, an empty pattern, an empty block, the whole pattern replaced");
+    edit(b"acbabcabcabac", 0, 0, b"a", 2, 2);
+    edit(b"acbabcabcabac", 13, 13, b"b", 2, 2);
+    edit(b"", 0, 0, b"ab", 1, 1);
+    edit(b"", 0, 0, b"", 0, 0);
+    edit(b"abc", 1, 1, b"", 1, 1);
+    edit(b"abc", 0, 3, b"ba", 2, 2);
+    edit(b"abc", 0, 3, b"", 0, 0);
+}
+
+fn refused() {
+    show::heading(b"refusals, with later ones true");
+    edit(&[b'a'; 4097], 2, 1, &[b'b'; 257], 0, 0);
+    edit(b"abc", 2, 1, &[b'b'; 257], 0, 0);
+    edit(
+        b"abc",
+        18446744073709551615,
+        18446744073709551615,
+        b"",
+        0,
+        0,
+    );
+    edit(b"abc", 0, 18446744073709551615, b"", 0, 0);
+    edit(b"abc", 0, 4, b"", 0, 0);
+    edit(&[b'a'; 4000], 0, 0, &[b'b'; 257], 0, 0);
+    edit_with(&[b'a'; 4000], &[], &[], 0, 0, &[b'b'; 97], 0, 0);
+    edit_with(b"abc", &[], &[], 0, 0, b"b", 0, 0);
+    edit(b"acbabcabcabac", 11, 11, b"a", 1, 4);
+    edit(b"acbabcabcabac", 11, 11, b"a", 2, 3);
+    show::heading(b"an edited length of 4096, a block of 256");
+    edit(&[b'a'; 3840], 3840, 3840, &[b'b'; 256], 1, 1);
+    edit(&[b'a'; 3841], 3841, 3841, &[b'b'; 256], 1, 1);
+}
+
+// One entry of a table is one too large.
+fn wrong_array(at: usize, value: u16) {
+    let mut table = REACH;
+    if at < 13 {
+        table[at] = value;
+        edit_with(b"acbabcabcabac", &table, &LAST, 5, 6, b"b", 0, 0);
+    }
+}
+
+fn wrong_last(at: usize, value: u16) {
+    let mut table = LAST;
+    if at < 13 {
+        table[at] = value;
+        edit_with(b"acbabcabcabac", &REACH, &table, 5, 6, b"b", 0, 0);
+    }
+}
+
+fn tables() {
+    show::heading(b"tables with a wrong entry: the first, a middle one, the last; right ones");
+    wrong_array(0, 4);
+    wrong_last(0, 2);
+    wrong_array(6, 4);
+    wrong_last(6, 2);
+    wrong_array(12, 2);
+    wrong_last(12, 5);
+    edit_with(b"acbabcabcabac", &REACH, &LAST, 5, 6, b"b", 1, 1);
+}
+
+pub fn run() {
+    sheet();
+    ends();
+    refused();
+    tables();
+}

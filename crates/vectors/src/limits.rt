@@ -1,0 +1,80 @@
+// The longest patterns: 4,096 bytes are accepted and more are refused with 1; a tree's word of 256 bytes is accepted and more are refused with 6.
+use crate::calls;
+use crate::calls::OLD;
+use crate::show;
+
+// Every call that has refusal 1. Both questions ask for the groups of the whole pattern.
+fn each_call(pattern: &[u8], table: &mut [u16]) {
+    calls::factor(pattern, 4);
+    calls::lyndon_array(pattern, 4097);
+    calls::last_factors(pattern, 4097);
+    calls::longest_words(pattern, 2);
+    calls::longest_word(pattern);
+    calls::is_lyndon(pattern);
+    calls::least_rotation(pattern);
+    lyndon::last_factors(pattern, table);
+    calls::factor_prefix(pattern, table, pattern.len(), 4);
+    lyndon::lyndon_array(pattern, table);
+    calls::factor_suffix(pattern, table, 0, 4);
+}
+
+// a .. a b, one Lyndon word of 4,096 bytes: its Lyndon array is 4096 4095 .. 1, its prefix table 1 1 .. 1 4096.
+fn accepted() {
+    show::heading(b"4096 bytes: a .. a b");
+    let mut pattern = [b'a'; 4096];
+    pattern[4095] = b'b';
+    each_call(&pattern, &mut [OLD; 4096]);
+}
+
+fn refused() {
+    show::heading(b"4097 bytes: a .. a b");
+    let mut pattern = [b'a'; 4097];
+    pattern[4096] = b'b';
+    each_call(&pattern, &mut [OLD; 4097]);
+    show::heading(b"65536 bytes");
+    each_call(&[b'a'; 65536], &mut [OLD; 4097]);
+}
+
+// 4,096 factors: one group, a table of ones, 4,096 starts.
+fn repeated(pattern: &[u8]) {
+    show::heading(b"4096 bytes: a .. a");
+    calls::factor(pattern, 3);
+    calls::lyndon_array(pattern, 4095);
+    calls::lyndon_array(pattern, 4096);
+    calls::last_factors(pattern, 4095);
+    calls::last_factors(pattern, 4096);
+    calls::longest_words(pattern, 4095);
+    calls::longest_words(pattern, 4096);
+    calls::longest_words(pattern, 4097);
+    calls::is_lyndon(pattern);
+}
+
+fn last_start() {
+    show::heading(b"4096 bytes: a .. a b a");
+    let mut pattern = [b'a'; 4096];
+    pattern[4094] = b'b';
+    calls::least_rotation(&pattern);
+}
+
+// a .. a b: 511 nodes, 1,022 numbers. The tree has no refusal 1.
+fn trees() {
+    show::heading(b"256 bytes: a .. a b, a row one short, exact, longer");
+    let mut accepted = [b'a'; 256];
+    accepted[255] = b'b';
+    calls::lyndon_tree(&accepted, 1021);
+    calls::lyndon_tree(&accepted, 1022);
+    calls::lyndon_tree(&accepted, 1024);
+    show::heading(b"257 bytes: a .. a b, and 4097 bytes");
+    let mut refused = [b'a'; 257];
+    refused[256] = b'b';
+    calls::lyndon_tree(&refused, 1026);
+    calls::lyndon_tree(&[b'a'; 4097], 1026);
+}
+
+pub fn run() {
+    accepted();
+    refused();
+    repeated(&[b'a'; 4096]);
+    last_start();
+    trees();
+}

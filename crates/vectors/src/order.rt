@@ -1,0 +1,48 @@
+// Where several refusals hold, the smallest number is answered, and nothing is written. A heading names those that hold, case by case.
+use crate::calls;
+use crate::show;
+
+fn last_factors(s: &[u8]) {
+    show::heading(b"refusals that hold: 2 5 8; 2 5; 2 8; 5 8; 8");
+    calls::factor_prefix(s, &[], 5, 2);
+    calls::factor_prefix(s, &[1, 2, 1, 1], 5, 3);
+    calls::factor_prefix(s, &[1, 2, 1, 2], 5, 2);
+    calls::factor_prefix(s, &[1, 2, 1, 1], 4, 2);
+    calls::factor_prefix(s, &[1, 2, 1, 2], 4, 2);
+}
+
+fn lyndon_array(s: &[u8]) {
+    show::heading(b"refusals that hold: 2 5 8; 2 5; 2 8; 5 8; 8");
+    calls::factor_suffix(s, &[], 5, 2);
+    calls::factor_suffix(s, &[4, 1, 2, 1], 5, 3);
+    calls::factor_suffix(s, &[2, 1, 2, 1], 5, 2);
+    calls::factor_suffix(s, &[4, 1, 2, 1], 0, 2);
+    calls::factor_suffix(s, &[2, 1, 2, 1], 0, 2);
+}
+
+// 4,097 bytes, tables and rows of 0 entries, the largest position.
+fn long_pattern(s: &[u8]) {
+    show::heading(b"refusals that hold: 1 8");
+    calls::factor(s, 0);
+    calls::lyndon_array(s, 0);
+    calls::last_factors(s, 0);
+    calls::longest_words(s, 0);
+    show::heading(b"refusals that hold: 1 2 5 8");
+    calls::factor_prefix(s, &[], usize::MAX, 0);
+    calls::factor_suffix(s, &[], usize::MAX, 0);
+}
+
+fn trees() {
+    show::heading(b"refusals that hold: 6 7 8; 7 8; 7; 7");
+    calls::lyndon_tree(&[b'a'; 257], 0);
+    calls::lyndon_tree(&[b'a'; 256], 0);
+    calls::lyndon_tree(b"abab", 14);
+    calls::lyndon_tree(b"ba", 6);
+}
+
+pub fn run() {
+    last_factors(b"abab");
+    lyndon_array(b"abab");
+    long_pattern(&[b'a'; 4097]);
+    trees();
+}

@@ -1,0 +1,178 @@
+//! Where each refusal begins, with the number written out.
+use crate::calls::{self, Side};
+use crate::edits;
+use crate::engine::{self, Given, Group};
+use crate::families::{A, B};
+use crate::fast::FAST;
+use crate::right::Facts;
+use crate::tally::{Random, Tally, show};
+
+const MAX: usize = usize::MAX;
+
+fn row() -> Vec<u16> {
+    vec![0; 3 * 4100]
+}
+
+fn says(t: &mut Tally, what: &str, n: usize, got: u8, want: u8) {
+    t.equal(&got, &want, || format!("{what}, pattern of {n} bytes"));
+}
+
+/// Both edit calls, with plenty of room.
+fn edit(t: &mut Tally, f: &Facts, g: &Given, want: u8) {
+    let mut middle = vec![Group { start: 0, length: 0, power: 0 }; 4100];
+    let got = [engine::edit(g, &mut middle, &mut row()).refusal, engine::edit_numbers(g, &mut row(), &mut row()).refusal];
+    t.equal(&got, &[want; 2], || edits::describe(g));
+    if g.pattern.len() <= 4097 {
+        edits::compare(t, &FAST, f, g);
+    } else {
+        t.edit(false);
+    }
+}
+
+fn whole<'a>(w: &'a [u8], f: &'a Facts, from: usize, to: usize, block: &'a [u8]) -> Given<'a> {
+    Given { pattern: w, array: &f.array, last: &f.last, from, to, block }
+}
+
+/// 1: 4,096 accepted, 4,097 refused, and lengths that 16 bits take for short ones. The tree has its own limit.
+fn pattern(t: &mut Tally, w: &[u8], f: &Facts, want: u8) {
+    let n = w.len();
+    t.words += 1;
+    says(t, "factor", n, engine::factor(w, &mut row()).0, want);
+    says(t, "lyndon_array", n, engine::array(w, &mut row()).0, want);
+    says(t, "last_factors", n, engine::last_factors(w, &mut row()).0, want);
+    says(t, "longest_words", n, engine::longest_words(w, &mut row()).0, want);
+    says(t, "is_lyndon", n, engine::is_lyndon(w).0, want);
+    says(t, "least_rotation", n, engine::least_rotation(w).0, want);
+    says(t, "factor_prefix", n, engine::factor_prefix(w, &f.last, 3, &mut row()).0, want);
+    says(t, "factor_suffix", n, engine::factor_suffix(w, &f.array, 3, &mut row()).0, want);
+    says(t, "tree", n, engine::tree(w, &mut row()).0, 6);
+    let (number, size) = engine::longest_word(w, &mut vec![0; 4100]);
+    says(t, "longest_word", n, number, 0);
+    t.check((size[0] == 0) == (want == 1), || format!("longest_word of {n} bytes has {}", size[0]));
+    edit(t, f, &whole(w, f, 0, 600, &[]), want);
+}
+
+/// 2: the length itself is a position, the next one is none.
+fn positions(t: &mut Tally, w: &[u8]) {
+    let n = w.len();
+    let f = (FAST.facts)(w);
+    t.words += 1;
+    for (position, want) in [(0, 0), (n, 0), (n + 1, 2), (65_536, 2), (MAX, 2)] {
+        for side in [Side::Prefix, Side::Suffix] {
+            let got = side.call(w, side.table(&f), position, &mut row()).0;
+            says(t, &format!("{side:?} at {position}"), n, got, want);
+            calls::part(t, &FAST, w, &f, side, side.table(&f), position);
+        }
+    }
+    let (m, last) = (n / 2, n.saturating_sub(1));
+    let accepted = [(0, 0), (0, n), (n, n), (m, m), (last, n)];
+    let refused = [(m + 1, m), (n + 1, n), (0, n + 1), (n, n + 1), (n + 1, n + 1), (MAX, MAX), (0, MAX), (MAX, 0), (MAX, n), (0, 65_536)];
+    for (from, to) in accepted {
+        edit(t, &f, &whole(w, &f, from, to, &[]), 0);
+    }
+    for (from, to) in refused {
+        edit(t, &f, &whole(w, &f, from, to, &[]), 2);
+    }
+}
+
+/// 3: a block of 256 is accepted. 4: an edited pattern of 4,096 is.
+fn blocks(t: &mut Tally, long: &[u8]) {
+    let block = long.repeat(16);
+    for (n, from, to, size, want) in [
+        (0, 0, 0, 256, 0),
+        (0, 0, 0, 257, 3),
+        (13, 5, 9, 255, 0),
+        (13, 5, 9, 256, 0),
+        (13, 5, 9, 257, 3),
+        (13, 5, 9, 65_536, 3),
+        (4096, 0, 4096, 256, 0),
+        (4096, 0, 4096, 257, 3),
+        (4096, 17, 17, 0, 0),
+        (4096, 17, 17, 1, 4),
+        (4096, 4096, 4096, 1, 4),
+        (4095, 4095, 4095, 1, 0),
+        (4095, 0, 0, 2, 4),
+        (4096, 100, 356, 256, 0),
+        (4096, 100, 355, 256, 4),
+        (3840, 9, 9, 256, 0),
+        (3841, 9, 9, 256, 4),
+        (3841, 9, 10, 256, 0),
+    ] {
+        let w = &long[..n];
+        let f = (FAST.facts)(w);
+        edit(t, &f, &whole(w, &f, from, to, &block[..size]), want);
+    }
+}
+
+/// 5: a table of n entries is enough, and only these are read.
+fn tables(t: &mut Tally, w: &[u8]) {
+    let n = w.len();
+    let f = (FAST.facts)(w);
+    for (length, want) in [(n - 1, 5), (n, 0), (n + 1, 0), (n + 3, 0)] {
+        let cut = |table: &[u16]| calls::longer(table)[..length].to_vec();
+        let (array, last) = (cut(&f.array), cut(&f.last));
+        let name = format!("a table of {length}");
+        says(t, &name, n, engine::factor_prefix(w, &last, n, &mut row()).0, want);
+        says(t, &name, n, engine::factor_suffix(w, &array, 0, &mut row()).0, want);
+        edit(t, &f, &Given { array: &array, ..whole(w, &f, 0, 1, &[]) }, want);
+        edit(t, &f, &Given { last: &last, ..whole(w, &f, 0, 1, &[]) }, want);
+    }
+}
+
+/// 6: a word of 256 is accepted. 7: the empty one and every other that is no Lyndon word is not.
+fn trees(t: &mut Tally) {
+    let up = |n: usize| (1..=n).map(|k| if k == n { B } else { A }).collect::<Vec<u8>>();
+    let ramp: Vec<u8> = (0..=255).collect();
+    let half = up(128).repeat(2);
+    #[rustfmt::skip]
+    let all = [
+        (up(255), 0), (up(256), 0), (ramp, 0), (up(257), 6), (up(4097), 6), (up(65_637), 6), (vec![A; 65_537], 6),
+        (vec![], 7), (vec![A], 0), (vec![A, A], 7), (vec![B, A], 7), (vec![A, B], 0), (half, 7), (vec![A; 256], 7),
+    ];
+    for (w, want) in all {
+        let got = engine::tree(&w, &mut row()).0;
+        t.equal(&got, &want, || format!("tree of {}", show(&w)));
+        if w.len() <= 257 {
+            calls::word(t, &FAST, &w, &(FAST.facts)(&w), &[]);
+        }
+    }
+}
+
+/// 8: the exact row is enough, one entry less is not.
+fn rows(t: &mut Tally) {
+    let w = b"acbabcabcabac";
+    let f = (FAST.facts)(w);
+    let mut say = |what: &str, need: usize, call: &dyn Fn(&mut [u16]) -> u8| {
+        says(t, what, need, call(&mut vec![0; need]), 0);
+        says(t, what, need - 1, call(&mut vec![0; need - 1]), 8);
+    };
+    say("factor", 9, &|row| engine::factor(w, row).0);
+    say("lyndon_array", 13, &|row| engine::array(w, row).0);
+    say("last_factors", 13, &|row| engine::last_factors(w, row).0);
+    say("longest_words", 1, &|row| engine::longest_words(w, row).0);
+    say("longest_word", 4, &|row| engine::longest_word(w, &mut vec![0; row.len()]).0);
+    say("tree", 18, &|row| engine::tree(b"aabab", row).0);
+    say("factor_prefix", 6, &|row| engine::factor_prefix(w, &f.last, 9, row).0);
+    say("factor_suffix", 3, &|row| engine::factor_suffix(w, &f.array, 9, row).0);
+    let g = whole(w, &f, 11, 11, b"a");
+    let none = Group { start: 0, length: 0, power: 0 };
+    say("edit, groups", 2, &|row| engine::edit(&g, &mut vec![none; row.len()], &mut [0; 4]).refusal);
+    say("edit, starts", 4, &|row| engine::edit(&g, &mut [none; 2], row).refusal);
+    say("edit_numbers, groups", 6, &|row| engine::edit_numbers(&g, row, &mut [0; 4]).refusal);
+    say("edit_numbers, starts", 4, &|row| engine::edit_numbers(&g, &mut [0; 6], row).refusal);
+}
+
+pub fn all(t: &mut Tally, r: &mut Random) {
+    let long = r.letters(&[A, B], 65_536 + 700);
+    for (n, tabled, want) in [(4095, 4095, 0), (4096, 4096, 0), (4097, 4097, 1), (65_536, 9, 1), (long.len(), 700, 1)] {
+        pattern(t, &long[..n], &(FAST.facts)(&long[..tabled]), want);
+    }
+    for n in [0, 1, 13, 4096] {
+        positions(t, &long[..n]);
+    }
+    blocks(t, &long[..4096]);
+    tables(t, &long[..13]);
+    tables(t, &long[..4096]);
+    trees(t);
+    rows(t);
+}

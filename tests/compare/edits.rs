@@ -1,0 +1,108 @@
+//! Compares the two calls that answer an edit with what is right.
+use crate::engine::{self, EditAnswer, Given, Group};
+use crate::lent::{Entry, Lent, lengths};
+use crate::right::{Edit, Facts, Right, binary_digits, edit_holds, flat};
+use crate::tally::{Tally, brief, show};
+use std::fmt::Debug;
+
+/// What an edit is to answer: a refusal's number, or the answer.
+pub type Want<'a> = Result<&'a Edit, u8>;
+
+pub fn describe(g: &Given) -> String {
+    let tables = (g.array.len(), g.last.len());
+    format!("edit of {} from {} to {}, block {}, tables of {tables:?}", show(g.pattern), g.from, g.to, show(g.block))
+}
+
+fn told(want: Want) -> EditAnswer {
+    match want {
+        Err(refusal) => EditAnswer { refusal, kept: 0, resume: 0, groups: 0, length: 0, starts: 0 },
+        Ok(e) => {
+            let (groups, starts) = (e.middle.len(), e.starts.len());
+            EditAnswer { refusal: 0, kept: e.kept, resume: e.resume, groups, length: e.length, starts }
+        }
+    }
+}
+
+/// What is read, each in the middle of a longer row.
+struct Read {
+    pattern: Lent<u8>,
+    array: Lent<u16>,
+    last: Lent<u16>,
+    block: Lent<u8>,
+}
+
+impl Read {
+    fn new(g: &Given) -> Read {
+        let (array, last) = (Lent::holding(g.array), Lent::holding(g.last));
+        Read { pattern: Lent::holding(g.pattern), array, last, block: Lent::holding(g.block) }
+    }
+
+    fn given(&self, g: &Given) -> Given<'_> {
+        let (array, last) = (self.array.contents(), self.last.contents());
+        Given { pattern: self.pattern.contents(), array, last, from: g.from, to: g.to, block: self.block.contents() }
+    }
+
+    fn unchanged(&self) -> bool {
+        self.pattern.unchanged() && self.array.unchanged() && self.last.unchanged() && self.block.unchanged()
+    }
+}
+
+type Call<T> = fn(&Given, &mut [T], &mut [u16]) -> EditAnswer;
+
+/// One call. `want` is without regard to the rows; `middle` is its groups as they are to be written.
+fn one<T: Entry + Debug>(t: &mut Tally, g: &Given, call: Call<T>, want: Want, middle: &[T], rows: (usize, usize)) {
+    let read = Read::new(g);
+    let (mut row, mut starts) = (Lent::blank(rows.0), Lent::blank(rows.1));
+    let got = call(&read.given(g), row.row(), starts.row());
+    let short = |e: &Edit| rows.0 < middle.len() || rows.1 < e.starts.len();
+    let want = want.and_then(|e| if short(e) { Err(8) } else { Ok(e) });
+    let case = || format!("{}, middle of {}, rows of {rows:?}", describe(g), std::any::type_name::<T>());
+    let unlike = |name: &str, row: String, want: String| format!("{}: {name} {row}, want {want}, the rest as before", case());
+    t.equal(&got, &told(want), case);
+    let (groups, places): (&[T], &[u16]) = want.map_or((&[], &[]), |e| (middle, &e.starts));
+    t.check(row.holds(groups), || unlike("middle", brief(row.contents()), brief(groups)));
+    t.check(starts.holds(places), || unlike("starts", brief(starts.contents()), brief(places)));
+    t.check(read.unchanged(), || format!("{}: what is read was changed", case()));
+}
+
+/// Both calls with rows of the given lengths, in groups and in starts.
+pub fn both(t: &mut Tally, g: &Given, want: Want, groups: usize, starts: usize) {
+    let middle: &[Group] = want.map_or(&[], |e| &e.middle);
+    one(t, g, engine::edit, want, middle, (groups, starts));
+    one(t, g, engine::edit_numbers, want, &flat(middle), (3 * groups, starts));
+}
+
+/// Both calls, the rows of each length worth trying; with a long pattern one of the two is exact.
+fn all_rows(t: &mut Tally, g: &Given, want: Want) {
+    let (groups, starts) = want.map_or((0, 0), |e| (e.middle.len(), e.starts.len()));
+    for s in lengths(starts) {
+        for m in lengths(groups) {
+            if g.pattern.len() < 1000 || m == groups || s == starts {
+                both(t, g, want, m, s);
+            }
+        }
+    }
+    if let Ok(e) = want {
+        let numbers = flat(&e.middle);
+        for m in lengths(numbers.len()) {
+            one(t, g, engine::edit_numbers, want, &numbers, (m, starts));
+        }
+    }
+}
+
+/// No more groups are spelled out afresh than this.
+fn bounded(t: &mut Tally, g: &Given, e: &Edit) {
+    let most = binary_digits(g.from) + g.block.len() + 1;
+    t.check(e.middle.len() <= most, || format!("{}: {} groups, at most {most}", describe(g), e.middle.len()));
+}
+
+pub fn compare(t: &mut Tally, right: &Right, f: &Facts, g: &Given) {
+    let holds = edit_holds(g, f);
+    t.edit(holds.none());
+    if !holds.none() {
+        return all_rows(t, g, Err(holds.first()));
+    }
+    let e = (right.edit)(g.pattern, g.from, g.to, g.block);
+    bounded(t, g, &e);
+    all_rows(t, g, Ok(&e));
+}

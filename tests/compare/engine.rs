@@ -1,0 +1,151 @@
+//! The proved functions of liblyndon_c.a and liblyndon_edit_c.a, each behind a safe function. include/lyndon.h has what they promise.
+//! A number that a call sets is preset to one that no call answers, so that a number left unset is seen.
+
+/// A group of equal neighbouring factors, as it lies in a row of records.
+#[repr(C)]
+#[derive(Clone, Copy, Debug, PartialEq, Eq)]
+pub struct Group {
+    pub start: u16,
+    pub length: u16,
+    pub power: u16,
+}
+
+/// The answer to an edit: the refusal's number or 0, and five numbers.
+#[repr(C)]
+#[derive(Clone, Copy, Debug, PartialEq, Eq)]
+pub struct EditAnswer {
+    pub refusal: u8,
+    pub kept: usize,
+    pub resume: usize,
+    pub groups: usize,
+    pub length: usize,
+    pub starts: usize,
+}
+
+/// The refusal's number or 0, and the numbers set; the second is 0 where a call sets one.
+pub type Answer = (u8, [usize; 2]);
+
+/// What an edit is given, apart from the rows it writes.
+#[derive(Clone, Copy)]
+pub struct Given<'a> {
+    pub pattern: &'a [u8],
+    pub array: &'a [u16],
+    pub last: &'a [u16],
+    pub from: usize,
+    pub to: usize,
+    pub block: &'a [u8],
+}
+
+const UNSET: usize = 0xDEAD_BEEF;
+
+type Fill<T> = unsafe extern "C" fn(*const u8, usize, *mut T, usize, *mut usize) -> u8;
+type Part = unsafe extern "C" fn(*const u8, usize, *const u16, usize, *mut u16, usize, usize, *mut usize) -> u8;
+#[rustfmt::skip]
+type Edit<T> = unsafe extern "C" fn(*const u8, usize, *const u16, usize, *const u16, usize, usize, usize, *const u8, usize, *mut T, usize, *mut u16, usize) -> EditAnswer;
+
+#[rustfmt::skip]
+unsafe extern "C" {
+    fn lyndon_factor(pattern: *const u8, pattern_len: usize, groups: *mut u16, groups_len: usize, count: *mut usize) -> u8;
+    fn lyndon_array(pattern: *const u8, pattern_len: usize, table: *mut u16, table_len: usize, count: *mut usize) -> u8;
+    fn lyndon_last_factors(pattern: *const u8, pattern_len: usize, table: *mut u16, table_len: usize, count: *mut usize) -> u8;
+    fn lyndon_longest_words(pattern: *const u8, pattern_len: usize, starts: *mut u16, starts_len: usize, size: *mut usize, count: *mut usize) -> u8;
+    fn lyndon_longest_word(pattern: *const u8, pattern_len: usize, word: *mut u8, word_len: usize, size: *mut usize) -> u8;
+    // `yes` is a bool for C; read as a byte, so that another value than 0 and 1 is seen
+    fn lyndon_is_lyndon(word: *const u8, word_len: usize, yes: *mut u8) -> u8;
+    fn lyndon_least_rotation(pattern: *const u8, pattern_len: usize, start: *mut usize) -> u8;
+    fn lyndon_tree(word: *const u8, word_len: usize, nodes: *mut u16, nodes_len: usize, count: *mut usize) -> u8;
+    fn lyndon_factor_prefix(pattern: *const u8, pattern_len: usize, table: *const u16, table_len: usize,
+                            groups: *mut u16, groups_len: usize, end: usize, count: *mut usize) -> u8;
+    fn lyndon_factor_suffix(pattern: *const u8, pattern_len: usize, table: *const u16, table_len: usize,
+                            groups: *mut u16, groups_len: usize, start: usize, count: *mut usize) -> u8;
+    fn lyndon_edit(pattern: *const u8, pattern_len: usize, array: *const u16, array_len: usize, last: *const u16, last_len: usize,
+                   from: usize, to: usize, block: *const u8, block_len: usize,
+                   middle: *mut Group, middle_len: usize, starts: *mut u16, starts_len: usize) -> EditAnswer;
+    fn lyndon_edit_numbers(pattern: *const u8, pattern_len: usize, array: *const u16, array_len: usize, last: *const u16, last_len: usize,
+                           from: usize, to: usize, block: *const u8, block_len: usize,
+                           middle: *mut u16, middle_len: usize, starts: *mut u16, starts_len: usize) -> EditAnswer;
+}
+
+// SAFETY, of each call below: a slice's pointer and length are passed as they are, a `&mut` overlaps nothing, and the engine keeps none of them.
+
+fn fill<T>(call: Fill<T>, pattern: &[u8], row: &mut [T]) -> Answer {
+    let mut count = UNSET;
+    let refusal = unsafe { call(pattern.as_ptr(), pattern.len(), row.as_mut_ptr(), row.len(), &mut count) };
+    (refusal, [count, 0])
+}
+
+pub fn factor(pattern: &[u8], groups: &mut [u16]) -> Answer {
+    fill(lyndon_factor, pattern, groups)
+}
+
+pub fn array(pattern: &[u8], table: &mut [u16]) -> Answer {
+    fill(lyndon_array, pattern, table)
+}
+
+pub fn last_factors(pattern: &[u8], table: &mut [u16]) -> Answer {
+    fill(lyndon_last_factors, pattern, table)
+}
+
+/// Length, then the number of starts.
+pub fn longest_words(pattern: &[u8], starts: &mut [u16]) -> Answer {
+    let (mut size, mut count) = (UNSET, UNSET);
+    let refusal =
+        unsafe { lyndon_longest_words(pattern.as_ptr(), pattern.len(), starts.as_mut_ptr(), starts.len(), &mut size, &mut count) };
+    (refusal, [size, count])
+}
+
+pub fn longest_word(pattern: &[u8], word: &mut [u8]) -> Answer {
+    fill(lyndon_longest_word, pattern, word)
+}
+
+/// 1 for yes, 0 for no.
+pub fn is_lyndon(word: &[u8]) -> Answer {
+    let mut yes = 0xEE;
+    let refusal = unsafe { lyndon_is_lyndon(word.as_ptr(), word.len(), &mut yes) };
+    (refusal, [usize::from(yes), 0])
+}
+
+pub fn least_rotation(pattern: &[u8]) -> Answer {
+    let mut start = UNSET;
+    let refusal = unsafe { lyndon_least_rotation(pattern.as_ptr(), pattern.len(), &mut start) };
+    (refusal, [start, 0])
+}
+
+pub fn tree(word: &[u8], nodes: &mut [u16]) -> Answer {
+    fill(lyndon_tree, word, nodes)
+}
+
+fn part(call: Part, pattern: &[u8], table: &[u16], position: usize, groups: &mut [u16]) -> Answer {
+    let (table, table_len) = (table.as_ptr(), table.len());
+    let mut count = UNSET;
+    let refusal =
+        unsafe { call(pattern.as_ptr(), pattern.len(), table, table_len, groups.as_mut_ptr(), groups.len(), position, &mut count) };
+    (refusal, [count, 0])
+}
+
+pub fn factor_prefix(pattern: &[u8], last: &[u16], end: usize, groups: &mut [u16]) -> Answer {
+    part(lyndon_factor_prefix, pattern, last, end, groups)
+}
+
+pub fn factor_suffix(pattern: &[u8], array: &[u16], start: usize, groups: &mut [u16]) -> Answer {
+    part(lyndon_factor_suffix, pattern, array, start, groups)
+}
+
+fn answer<T>(call: Edit<T>, g: &Given, middle: &mut [T], starts: &mut [u16]) -> EditAnswer {
+    let (array, last, block) = (g.array.as_ptr(), g.last.as_ptr(), g.block.as_ptr());
+    let (rows, places) = (middle.as_mut_ptr(), starts.as_mut_ptr());
+    #[rustfmt::skip]
+    let told = unsafe {
+        call(g.pattern.as_ptr(), g.pattern.len(), array, g.array.len(), last, g.last.len(),
+             g.from, g.to, block, g.block.len(), rows, middle.len(), places, starts.len())
+    };
+    told
+}
+
+pub fn edit(given: &Given, middle: &mut [Group], starts: &mut [u16]) -> EditAnswer {
+    answer(lyndon_edit, given, middle, starts)
+}
+
+pub fn edit_numbers(given: &Given, middle: &mut [u16], starts: &mut [u16]) -> EditAnswer {
+    answer(lyndon_edit_numbers, given, middle, starts)
+}

@@ -1,0 +1,156 @@
+//! The same answers for long words, by other ways than the definitions. Each is compared with the naive one in every run.
+use crate::engine::Group;
+use crate::right::{Edit, Facts, Right, TREE_LIMIT};
+
+pub const FAST: Right = Right { facts, groups, edit };
+
+/// Duval's algorithm; gives start, factor length and power of each group to `each`.
+fn duval(w: &[u8], mut each: impl FnMut(usize, usize, usize)) {
+    let mut start = 0;
+    while start < w.len() {
+        let (mut k, mut j) = (start, start + 1);
+        while j < w.len() && w[k] <= w[j] {
+            k = if w[k] < w[j] { start } else { k + 1 };
+            j += 1;
+        }
+        let length = j - k;
+        let power = (j - start) / length;
+        each(start, length, power);
+        start += length * power;
+    }
+}
+
+fn groups(w: &[u8]) -> Vec<Group> {
+    let mut found = Vec::new();
+    duval(w, |start, length, power| found.push(Group { start: start as u16, length: length as u16, power: power as u16 }));
+    found
+}
+
+fn last_factor(w: &[u8]) -> usize {
+    let mut last = 0;
+    duval(w, |_, length, _| last = length);
+    last
+}
+
+/// The place of each suffix among all suffixes in order, by doubling: ranks by 1, 2, 4 .. bytes; 0 is past the end.
+fn suffix_ranks(w: &[u8]) -> Vec<u32> {
+    let mut ranks: Vec<u32> = w.iter().map(|&b| u32::from(b) + 1).collect();
+    let mut step = 1;
+    while step < w.len() {
+        let key = |i: usize| u64::from(ranks[i]) << 32 | u64::from(*ranks.get(i + step).unwrap_or(&0));
+        let mut order: Vec<(u64, usize)> = (0..w.len()).map(|i| (key(i), i)).collect();
+        order.sort_unstable();
+        let mut next = vec![1; w.len()];
+        for pair in order.windows(2) {
+            next[pair[1].1] = next[pair[0].1] + u32::from(pair[0].0 < pair[1].0);
+        }
+        let distinct = next[order[w.len() - 1].1] as usize == w.len();
+        ranks = next;
+        if distinct {
+            break;
+        }
+        step *= 2;
+    }
+    ranks
+}
+
+/// The longest Lyndon substring at i ends where the first smaller suffix starts.
+fn reach(w: &[u8]) -> Vec<u16> {
+    let ranks = suffix_ranks(w);
+    let mut table = vec![0; w.len()];
+    let mut waiting: Vec<usize> = Vec::new();
+    for j in 0..=w.len() {
+        while let Some(&i) = waiting.last().filter(|&&i| j == w.len() || ranks[j] < ranks[i]) {
+            table[i] = (j - i) as u16;
+            waiting.pop();
+        }
+        waiting.push(j);
+    }
+    table
+}
+
+fn longest(array: &[u16]) -> (usize, Vec<u16>) {
+    let length = array.iter().copied().max().unwrap_or(0);
+    let starts = (0..array.len()).filter(|&i| array[i] == length).map(|i| i as u16).collect();
+    (usize::from(length), starts)
+}
+
+/// Two candidates i < j; the one whose rotation is found larger passes over what was compared.
+fn mark(w: &[u8]) -> usize {
+    let n = w.len();
+    let (mut i, mut j, mut same) = (0, 1, 0);
+    while i < n && j < n && same < n {
+        let (a, b) = (w[(i + same) % n], w[(j + same) % n]);
+        if a == b {
+            same += 1;
+            continue;
+        }
+        if a > b {
+            i += same + 1;
+        } else {
+            j += same + 1;
+        }
+        if i == j {
+            j += 1;
+        }
+        (i, j, same) = (i.min(j), i.max(j), 0);
+    }
+    if n == 0 { 0 } else { i.min(j) }
+}
+
+/// The longest proper suffix that is a Lyndon word is the last factor of what follows the first byte.
+fn tree(w: &[u8], start: usize, nodes: &mut Vec<u16>) {
+    nodes.extend([start as u16, w.len() as u16]);
+    if w.len() > 1 {
+        let cut = w.len() - last_factor(&w[1..]);
+        tree(&w[..cut], start, nodes);
+        tree(&w[cut..], start + cut, nodes);
+    }
+}
+
+fn facts(w: &[u8]) -> Facts {
+    let groups = groups(w);
+    let array = reach(w);
+    let (length, starts) = longest(&array);
+    let last = (1..=w.len()).map(|q| last_factor(&w[..q]) as u16).collect();
+    let lyndon = groups.len() == 1 && groups[0].power == 1;
+    let mut nodes = Vec::new();
+    if lyndon && w.len() <= TREE_LIMIT {
+        tree(w, 0, &mut nodes);
+    }
+    Facts { groups, array, last, length, starts, mark: mark(w), lyndon, nodes }
+}
+
+/// The end of each factor.
+fn ends(w: &[u8]) -> Vec<usize> {
+    let mut found = Vec::new();
+    duval(w, |start, length, power| found.extend((1..=power).map(|k| start + k * length)));
+    found
+}
+
+/// Groups of the factors between neighbouring bounds.
+fn grouped(w: &[u8], bounds: &[usize]) -> Vec<Group> {
+    let mut found: Vec<Group> = Vec::new();
+    for k in 1..bounds.len() {
+        let word = &w[bounds[k - 1]..bounds[k]];
+        let same = k > 1 && w[bounds[k - 2]..bounds[k - 1]] == *word;
+        match found.last_mut().filter(|_| same) {
+            Some(group) => group.power += 1,
+            None => found.push(Group { start: bounds[k - 1] as u16, length: word.len() as u16, power: 1 }),
+        }
+    }
+    found
+}
+
+fn edit(w: &[u8], from: usize, to: usize, block: &[u8]) -> Edit {
+    let edited = [&w[..from], block, &w[to..]].concat();
+    let (old, new) = (ends(w), ends(&edited));
+    let kept = old.iter().zip(&new).take_while(|(a, b)| a == b && **a <= from).count();
+    let resumed = from + block.len();
+    let starts_at = |place: usize| place == 0 || place == edited.len() || new.binary_search(&place).is_ok();
+    let place = (resumed..).find(|&p| starts_at(p)).unwrap();
+    let first = if kept == 0 { 0 } else { new[kept - 1] };
+    let bounds: Vec<usize> = std::iter::once(first).chain(new[kept..].iter().copied().take_while(|&e| e <= place)).collect();
+    let (length, starts) = longest(&reach(&edited));
+    Edit { kept, resume: place - resumed + to, middle: grouped(&edited, &bounds), length, starts }
+}

@@ -1,0 +1,75 @@
+//! Words of ten families around the longest that is accepted, held to the fast version.
+use crate::calls::{self, Side};
+use crate::edits;
+use crate::engine::Given;
+use crate::families::families;
+use crate::fast::FAST;
+use crate::right::Facts;
+use crate::tally::{Random, Tally};
+
+fn stretches(r: &mut Random, n: usize) -> Vec<(usize, usize)> {
+    let mut all = vec![(0, 0), (0, 1), (0, n), (n / 2, n / 2 + 1), (n - 1, n), (n, n)];
+    for _ in 0..4 {
+        let from = r.below(n + 1);
+        all.push((from, n.min(from + r.below(300))));
+    }
+    let (a, b) = (r.below(n + 1), r.below(n + 1));
+    all.push((a.min(b), a.max(b)));
+    all
+}
+
+/// A byte of the word, a part of it, or random bytes; the longest has 256.
+fn block(r: &mut Random, w: &[u8]) -> Vec<u8> {
+    match r.below(5) {
+        0 => vec![],
+        1 => vec![w[r.below(w.len())]],
+        2 => vec![w[0].wrapping_add(r.below(3) as u8)],
+        3 => {
+            let start = r.below(w.len() - 256);
+            w[start..start + 1 + r.below(256)].to_vec()
+        }
+        _ => {
+            let size = r.below(257);
+            r.bytes(size)
+        }
+    }
+}
+
+fn long_edits(t: &mut Tally, r: &mut Random, w: &[u8], f: &Facts) {
+    for (from, to) in stretches(r, w.len()) {
+        let as_long = w[..(to - from).min(256)].to_vec();
+        for block in [block(r, w), as_long] {
+            edits::compare(t, &FAST, f, &Given { pattern: w, array: &f.array, last: &f.last, from, to, block: &block });
+        }
+    }
+}
+
+/// One entry changed somewhere: the questions over that table are refused.
+fn wrong_entry(t: &mut Tally, r: &mut Random, w: &[u8], f: &Facts) {
+    let n = w.len();
+    for place in [0, n - 1, r.below(n), r.below(n)] {
+        let change = |table: &[u16]| {
+            let mut wrong = table.to_vec();
+            wrong[place] ^= 1;
+            wrong
+        };
+        let (array, last) = (change(&f.array), change(&f.last));
+        calls::part(t, &FAST, w, f, Side::Prefix, &last, n / 2);
+        calls::part(t, &FAST, w, f, Side::Suffix, &array, n / 2);
+        let given = |array, last| Given { pattern: w, array, last, from: n / 2, to: n / 2 + 1, block: &[] };
+        edits::compare(t, &FAST, f, &given(&array, &f.last));
+        edits::compare(t, &FAST, f, &given(&f.array, &last));
+    }
+}
+
+pub fn words(t: &mut Tally, r: &mut Random, n: usize) {
+    for (family, w) in families(n, r) {
+        assert_eq!(w.len(), n);
+        t.origin = format!("{family}, {n} bytes: ");
+        let f = (FAST.facts)(&w);
+        let positions = [0, 1, n / 2, n - 1, n, n + 1, r.below(n), r.below(n), r.below(n), r.below(n)];
+        calls::word(t, &FAST, &w, &f, &positions);
+        long_edits(t, r, &w, &f);
+        wrong_entry(t, r, &w, &f);
+    }
+}

@@ -1,0 +1,57 @@
+//! Compares every function of the two archives with a program written from the definitions alone, and prints what it ran.
+//! The first argument is the seed of the random words. A failed case is printed; the last line counts the parts.
+mod calls;
+mod edges;
+mod edits;
+mod engine;
+mod families;
+mod fast;
+mod lent;
+mod long;
+mod oracle;
+mod orders;
+mod right;
+mod sheet;
+mod short;
+mod tables;
+mod tally;
+
+use std::process::ExitCode;
+use tally::{Random, Run};
+
+const SEED: u64 = 20_261_115;
+
+/// Letters whose order a signed comparison would turn round.
+const TWO: &[u8] = &[0x7F, 0x80];
+const THREE: &[u8] = &[0, 0x7F, 0xFF];
+
+fn seed() -> Option<u64> {
+    std::env::args().nth(1).map_or(Some(SEED), |word| word.parse().ok())
+}
+
+fn main() -> ExitCode {
+    let Some(seed) = seed() else {
+        eprintln!("the seed is a decimal number");
+        return ExitCode::from(2);
+    };
+    println!("seed {seed}");
+    let r = &mut Random::new(seed);
+    let mut run = Run::default();
+    run.part("the trainer's sheet, P1 to P14", sheet::all);
+    run.part("every word over two letters to length 10", |t| short::words(t, TWO, 10));
+    run.part("every word over three letters to length 6", |t| short::words(t, THREE, 6));
+    run.part("every edit of every two-letter word to length 6, blocks to length 2", |t| short::all_edits(t, TWO, 6, 2));
+    run.part("every edit of every three-letter word to length 3, blocks to length 2", |t| short::all_edits(t, THREE, 3, 2));
+    run.part("random words to 70 bytes, two edits each", |t| short::random(t, r, 20_000));
+    for n in [256, 257] {
+        run.part(&format!("ten families of {n} bytes, from their phase marks on too"), |t| short::medium(t, r, n));
+    }
+    for n in [4095, 4096, 4097] {
+        run.part(&format!("ten families of {n} bytes"), |t| long::words(t, r, n));
+    }
+    run.part("tables with one entry changed or missing, two letters to length 6", |t| tables::wrong(t, TWO, 6));
+    run.part("tables with one entry changed or missing, three letters to length 4", |t| tables::wrong(t, THREE, 4));
+    run.part("the edge of each refusal", |t| edges::all(t, r));
+    run.part("two and more refusals at once", |t| orders::all(t, r));
+    if run.finish() { ExitCode::SUCCESS } else { ExitCode::FAILURE }
+}

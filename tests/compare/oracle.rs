@@ -1,0 +1,160 @@
+//! The definitions, tried out one by one: slow, and right at sight. Nothing here knows how the engine works.
+use crate::engine::Group;
+use crate::right::{Edit, Facts, Right, TREE_LIMIT};
+
+pub const NAIVE: Right = Right { facts, groups: groups_of, edit };
+
+/// A factor of a pattern: start and length.
+type Factor = (usize, usize);
+
+/// The smaller has the smaller byte at the first difference; a proper prefix is smaller.
+fn smaller(a: &[u8], b: &[u8]) -> bool {
+    for k in 0..a.len().min(b.len()) {
+        if a[k] != b[k] {
+            return a[k] < b[k];
+        }
+    }
+    a.len() < b.len()
+}
+
+/// Nonempty, and smaller than each of its nonempty proper suffixes.
+pub fn is_lyndon(w: &[u8]) -> bool {
+    !w.is_empty() && (1..w.len()).all(|k| smaller(w, &w[k..]))
+}
+
+/// Lyndon words, none smaller than the next, whose joining is the pattern.
+pub fn are_factors(w: &[u8], lengths: &[usize]) -> bool {
+    let mut words = Vec::new();
+    let mut start = 0;
+    for &length in lengths {
+        words.push(&w[start..start + length]);
+        start += length;
+    }
+    start == w.len() && words.iter().all(|f| is_lyndon(f)) && words.windows(2).all(|p| !smaller(p[0], p[1]))
+}
+
+/// Every split of a short word that is one into factors. Bit k of `cuts` says whether byte k ends a part.
+pub fn every_split(w: &[u8]) -> Vec<Vec<usize>> {
+    if w.is_empty() {
+        return vec![vec![]];
+    }
+    let mut found = Vec::new();
+    for cuts in 0..1_u32 << (w.len() - 1) {
+        let mut lengths = vec![1];
+        for k in 0..w.len() - 1 {
+            if cuts >> k & 1 == 1 {
+                lengths.push(1);
+            } else {
+                *lengths.last_mut().unwrap() += 1;
+            }
+        }
+        if are_factors(w, &lengths) {
+            found.push(lengths);
+        }
+    }
+    found
+}
+
+/// The longest prefix that is a Lyndon word, over and over. That these are the factors is looked at afresh each time.
+pub fn factors(w: &[u8]) -> Vec<Factor> {
+    let mut found = Vec::new();
+    let mut start = 0;
+    while start < w.len() {
+        let end = (start + 1..=w.len()).rev().find(|&end| is_lyndon(&w[start..end])).unwrap();
+        found.push((start, end - start));
+        start = end;
+    }
+    let lengths: Vec<usize> = found.iter().map(|f| f.1).collect();
+    assert!(are_factors(w, &lengths), "the naive split of {w:?} is none: {lengths:?}");
+    found
+}
+
+/// The longest stretches of equal neighbours among some factors.
+fn groups(w: &[u8], factors: &[Factor]) -> Vec<Group> {
+    let mut found: Vec<Group> = Vec::new();
+    let mut before: Option<&[u8]> = None;
+    for &(start, length) in factors {
+        let word = &w[start..start + length];
+        if before == Some(word) {
+            found.last_mut().unwrap().power += 1;
+        } else {
+            found.push(Group { start: start as u16, length: length as u16, power: 1 });
+        }
+        before = Some(word);
+    }
+    found
+}
+
+fn groups_of(w: &[u8]) -> Vec<Group> {
+    groups(w, &factors(w))
+}
+
+/// Entry i: the length of the longest Lyndon substring that starts at i.
+fn reach(w: &[u8]) -> Vec<u16> {
+    let longest_at = |i: usize| (1..=w.len() - i).rev().find(|&k| is_lyndon(&w[i..i + k])).unwrap();
+    (0..w.len()).map(|i| longest_at(i) as u16).collect()
+}
+
+/// Entry q - 1: the length of the last factor of the first q bytes.
+fn prefix_table(w: &[u8]) -> Vec<u16> {
+    (1..=w.len()).map(|q| factors(&w[..q]).last().unwrap().1 as u16).collect()
+}
+
+/// The largest length of a Lyndon substring, and every place where one of that length starts.
+fn longest(w: &[u8]) -> (usize, Vec<u16>) {
+    for length in (1..=w.len()).rev() {
+        let starts: Vec<u16> = (0..=w.len() - length).filter(|&i| is_lyndon(&w[i..i + length])).map(|i| i as u16).collect();
+        if !starts.is_empty() {
+            return (length, starts);
+        }
+    }
+    (0, vec![])
+}
+
+/// The smallest start of a rotation that no other is smaller than.
+fn mark(w: &[u8]) -> usize {
+    let rotation = |k: usize| [&w[k..], &w[..k]].concat();
+    let all: Vec<Vec<u8>> = (0..w.len()).map(rotation).collect();
+    (0..w.len()).find(|&k| all.iter().all(|r| !smaller(r, &all[k]))).unwrap_or(0)
+}
+
+/// Parent, all of u, all of v, where v is the longest proper suffix that is a Lyndon word.
+fn tree(w: &[u8], start: usize, nodes: &mut Vec<u16>) {
+    nodes.extend([start as u16, w.len() as u16]);
+    if w.len() > 1 {
+        let cut = (1..w.len()).find(|&k| is_lyndon(&w[k..])).unwrap();
+        tree(&w[..cut], start, nodes);
+        tree(&w[cut..], start + cut, nodes);
+    }
+}
+
+fn facts(w: &[u8]) -> Facts {
+    let (length, starts) = longest(w);
+    let lyndon = is_lyndon(w);
+    let mut nodes = Vec::new();
+    if lyndon && w.len() <= TREE_LIMIT {
+        tree(w, 0, &mut nodes);
+    }
+    Facts { groups: groups_of(w), array: reach(w), last: prefix_table(w), length, starts, mark: mark(w), lyndon, nodes }
+}
+
+/// The largest c for which the stored pattern's first c factors end at or before `from` and are the edited one's first c.
+fn kept(w: &[u8], stored: &[Factor], edited: &[u8], fresh: &[Factor], from: usize) -> usize {
+    let word_of = |p: &[u8], f: Factor| p[f.0..f.0 + f.1].to_vec();
+    let keeps = |c: usize| {
+        c <= fresh.len() && (0..c).all(|k| stored[k].0 + stored[k].1 <= from && word_of(w, stored[k]) == word_of(edited, fresh[k]))
+    };
+    (0..=stored.len()).rev().find(|&c| keeps(c)).unwrap()
+}
+
+/// The answer to an edit that none of the refusals 1 to 5 concerns.
+fn edit(w: &[u8], from: usize, to: usize, block: &[u8]) -> Edit {
+    let edited = [&w[..from], block, &w[to..]].concat();
+    let place = |s: usize| from + block.len() + s - to;
+    let fresh = factors(&edited);
+    let kept = kept(w, &factors(w), &edited, &fresh, from);
+    let resume = (to..=w.len()).find(|&s| s == w.len() || fresh.iter().any(|f| f.0 == place(s))).unwrap();
+    let middle: Vec<Factor> = fresh[kept..].iter().copied().filter(|f| f.0 < place(resume)).collect();
+    let (length, starts) = longest(&edited);
+    Edit { kept, resume, middle: groups(&edited, &middle), length, starts }
+}

@@ -1,0 +1,137 @@
+//! Two and more refusals at once: the first in number order is answered. Every pair that can hold of a call must have been met alone.
+use crate::calls::{self, Side, Want};
+use crate::edits;
+use crate::engine::{self, Answer, Given};
+use crate::families::{A, B};
+use crate::fast::FAST;
+use crate::right::{Edit, Facts, Holds, edit_holds, flat, part_holds, pattern_holds, tree_holds};
+use crate::tally::{Random, Tally};
+use std::collections::HashSet;
+
+const PLENTY: usize = 3 * 4100;
+
+/// The sets of refusals met.
+type Met = HashSet<Holds>;
+
+/// A call with one row; its set of refusals is noted.
+fn meet(t: &mut Tally, met: &mut Met, name: &str, w: &[u8], row: usize, want: &Want<u16>, call: impl Fn(&[u8], &mut [u16]) -> Answer) {
+    met.insert(want.holds.and(8, row < want.result.len()));
+    calls::one(t, name, w, row, want, call);
+}
+
+fn every_pair(t: &mut Tally, name: &str, met: &Met, numbers: &[u8]) {
+    for (k, &first) in numbers.iter().enumerate() {
+        for &second in &numbers[k + 1..] {
+            let pair = Holds::default().and(first, true).and(second, true);
+            t.check(met.contains(&pair), || format!("{name}: {first} and {second} alone were never met"));
+        }
+    }
+}
+
+fn plain(t: &mut Tally, w: &[u8], f: &Facts) {
+    let n = w.len();
+    let holds = pattern_holds(n);
+    type Call = fn(&[u8], &mut [u16]) -> Answer;
+    let all: [(&str, [usize; 2], &[u16], Call); 4] = [
+        ("factor", [f.groups.len(), 0], &flat(&f.groups), engine::factor),
+        ("lyndon_array", [n, 0], &f.array, engine::array),
+        ("last_factors", [n, 0], &f.last, engine::last_factors),
+        ("longest_words", [f.length, f.starts.len()], &f.starts, engine::longest_words),
+    ];
+    for (name, numbers, result, call) in all {
+        let mut met = Met::new();
+        for row in [0, result.len() - 1, result.len(), PLENTY] {
+            meet(t, &mut met, name, w, row, &Want { holds, numbers, result }, call);
+        }
+        every_pair(t, name, &met, &[1, 8]);
+    }
+}
+
+/// Where there is no tree a row with no entry counts as too short.
+fn tree(t: &mut Tally) {
+    let mut met = Met::new();
+    for n in [2, 256, 257] {
+        let lyndon: Vec<u8> = (1..=n).map(|k| if k == n { B } else { A }).collect();
+        for w in [lyndon, vec![A; n]] {
+            let f = (FAST.facts)(&w);
+            let result = if f.nodes.is_empty() { vec![0; 4 * n - 2] } else { f.nodes };
+            let want = Want { holds: tree_holds(n, f.lyndon), numbers: [2 * n - 1, 0], result: &result };
+            for row in [0, result.len() - 1, PLENTY] {
+                meet(t, &mut met, "tree", &w, row, &want, engine::tree);
+            }
+        }
+    }
+    every_pair(t, "tree", &met, &[6, 7, 8]);
+}
+
+/// A table, and how it may be wrong: an entry changed, the last one missing.
+fn tables(table: &[u16]) -> [Vec<u16>; 3] {
+    let mut wrong = table.to_vec();
+    wrong[table.len() / 3] += 1;
+    [table.to_vec(), wrong, table[..table.len() - 1].to_vec()]
+}
+
+fn parts(t: &mut Tally, met: &mut Met, w: &[u8], f: &Facts, side: Side) {
+    let n = w.len();
+    for table in tables(side.table(f)) {
+        for position in [n / 2, n + 1, usize::MAX] {
+            let holds = part_holds(n, position, &table, side.table(f));
+            let result = if position > n { vec![0; 3] } else { side.groups(&FAST, w, position) };
+            let want = Want { holds, numbers: [result.len() / 3, 0], result: &result };
+            for row in [0, PLENTY] {
+                let name = format!("{side:?} at {position}");
+                meet(t, met, &name, w, row, &want, |p, row| side.call(p, &table, position, row));
+            }
+        }
+    }
+}
+
+/// Where `from` and `to` are refused a row with no entry counts as too short.
+fn rows(t: &mut Tally, met: &mut Met, g: &Given, f: &Facts, e: Option<&Edit>) {
+    let holds = edit_holds(g, f);
+    let want = if holds.none() { Ok(e.unwrap()) } else { Err(holds.first()) };
+    let (groups, starts) = e.map_or((1, 1), |e| (e.middle.len(), e.starts.len()));
+    for (m, s) in [(PLENTY, PLENTY), (0, PLENTY), (PLENTY, 0), (0, 0)] {
+        let all = holds.and(8, m < groups || s < starts);
+        met.insert(all);
+        t.edit(all.none());
+        edits::both(t, g, want, m, s);
+    }
+}
+
+fn edit(t: &mut Tally, met: &mut Met, w: &[u8], f: &Facts, r: &mut Random) {
+    let n = w.len();
+    let (arrays, lasts) = (tables(&f.array), tables(&f.last));
+    let stretches =
+        [(0, 0), (9, 9 + 600), (7, n), (n, n), (5, 4), (0, n + 1), (n + 1, n + 1), (n, 0), (usize::MAX, usize::MAX), (usize::MAX, 0)];
+    for (from, to) in stretches {
+        for size in [0, 1, 256, 257, 600] {
+            let block = &r.letters(&[A, B], size);
+            let e = (from <= to && to <= n).then(|| (FAST.edit)(w, from, to, block));
+            for (a, l) in [(0, 0), (1, 0), (0, 1), (2, 0), (0, 2), (1, 2)] {
+                let g = Given { pattern: w, array: &arrays[a], last: &lasts[l], from, to, block };
+                rows(t, met, &g, f, e.as_ref());
+            }
+        }
+    }
+}
+
+pub fn all(t: &mut Tally, r: &mut Random) {
+    let long = r.letters(&[A, B], 4097);
+    let words = [&long[..4096], &long[..]].map(|w| (w, (FAST.facts)(w)));
+    plain(t, words[1].0, &words[1].1);
+    tree(t);
+    for side in [Side::Prefix, Side::Suffix] {
+        let mut met = Met::new();
+        for (w, f) in &words {
+            parts(t, &mut met, w, f, side);
+        }
+        every_pair(t, &format!("{side:?}"), &met, &[1, 2, 5, 8]);
+    }
+    let mut met = Met::new();
+    for (w, f) in &words {
+        t.words += 1;
+        edit(t, &mut met, w, f, r);
+    }
+    every_pair(t, "edit", &met, &[1, 2, 3, 4, 5, 8]);
+}

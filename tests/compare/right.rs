@@ -1,0 +1,99 @@
+//! What the naive and the fast version both answer, and which refusals hold.
+use crate::engine::{Given, Group};
+
+pub const LIMIT: usize = 4096;
+pub const BLOCK_LIMIT: usize = 256;
+pub const TREE_LIMIT: usize = 256;
+
+/// What there is to say of a pattern.
+#[derive(Clone, Debug, PartialEq)]
+pub struct Facts {
+    pub groups: Vec<Group>,
+    pub array: Vec<u16>,
+    pub last: Vec<u16>,
+    pub length: usize,
+    pub starts: Vec<u16>,
+    pub mark: usize,
+    pub lyndon: bool,
+    /// Two numbers a node; empty where there is no tree or the word is too long for one.
+    pub nodes: Vec<u16>,
+}
+
+/// The answer to an accepted edit.
+#[derive(Clone, Debug, PartialEq)]
+pub struct Edit {
+    pub kept: usize,
+    pub resume: usize,
+    pub middle: Vec<Group>,
+    pub length: usize,
+    pub starts: Vec<u16>,
+}
+
+/// One version of what is right.
+pub struct Right {
+    pub facts: fn(&[u8]) -> Facts,
+    pub groups: fn(&[u8]) -> Vec<Group>,
+    pub edit: fn(&[u8], usize, usize, &[u8]) -> Edit,
+}
+
+/// Three numbers a group.
+pub fn flat(groups: &[Group]) -> Vec<u16> {
+    groups.iter().flat_map(|g| [g.start, g.length, g.power]).collect()
+}
+
+/// The refusals that hold of a call, as a set of numbers.
+#[derive(Clone, Copy, Debug, Default, PartialEq, Eq, Hash)]
+pub struct Holds(pub u16);
+
+impl Holds {
+    pub fn and(self, number: u8, holds: bool) -> Holds {
+        Holds(self.0 | u16::from(holds) << number)
+    }
+
+    pub fn none(self) -> bool {
+        self.0 == 0
+    }
+
+    /// The first in number order, or 0.
+    pub fn first(self) -> u8 {
+        (1..=8).find(|n| self.0 >> n & 1 == 1).unwrap_or(0)
+    }
+}
+
+/// A table row is shorter than n, or one of its first n entries differs from the definition.
+fn wrong_table(table: &[u16], right: &[u16]) -> bool {
+    (0..right.len()).any(|i| table.get(i) != Some(&right[i]))
+}
+
+pub fn pattern_holds(n: usize) -> Holds {
+    Holds::default().and(1, n > LIMIT)
+}
+
+pub fn tree_holds(n: usize, lyndon: bool) -> Holds {
+    Holds::default().and(6, n > TREE_LIMIT).and(7, !lyndon)
+}
+
+/// A question about the prefix or suffix at a position, over a table.
+pub fn part_holds(n: usize, position: usize, table: &[u16], right: &[u16]) -> Holds {
+    pattern_holds(n).and(2, position > n).and(5, wrong_table(table, right))
+}
+
+/// The length of what an edit makes: up to `from`, the block, from `to` on.
+fn edited_length(g: &Given) -> usize {
+    let n = g.pattern.len();
+    g.from.min(n) + g.block.len() + n.saturating_sub(g.to)
+}
+
+pub fn edit_holds(g: &Given, facts: &Facts) -> Holds {
+    let n = g.pattern.len();
+    pattern_holds(n)
+        .and(2, g.from > g.to || g.to > n)
+        .and(3, g.block.len() > BLOCK_LIMIT)
+        .and(4, edited_length(g) > LIMIT)
+        .and(5, wrong_table(g.array, &facts.array) || wrong_table(g.last, &facts.last))
+}
+
+/// The smallest d for which `from` is below 2 to the power d.
+pub fn binary_digits(from: usize) -> usize {
+    (0..).find(|&d| from < 1 << d).unwrap()
+}

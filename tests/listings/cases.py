@@ -1,0 +1,147 @@
+"""The cases for both programs: each is run in a folder of its own, and its output compared with the model's."""
+import os
+import random
+import re
+import subprocess
+import sys
+import tempfile
+
+HEADER = b"start,length,power,word\r\n"
+EDIT = b"from,to\r\n"
+SHEET = b"acbabcabcabac"
+
+
+def is_lyndon(w):
+    return all(w < w[k:] for k in range(1, len(w)))
+
+
+def factors(s):
+    """The cut into Lyndon words: naive for short patterns, Duval's algorithm for long ones."""
+    out, i, n = [], 0, len(s)
+    if n <= 40:
+        while i < n:
+            j = max(j for j in range(i + 1, n + 1) if is_lyndon(s[i:j]))
+            out.append(s[i:j])
+            i = j
+        return out
+    while i < n:
+        j, k = i + 1, i
+        while j < n and s[k] <= s[j]:
+            k = i if s[k] < s[j] else k + 1
+            j += 1
+        while i <= k:
+            out.append(s[i:i + j - k])
+            i += j - k
+    return out
+
+
+def lines(fs, at):
+    text, i = b"", 0
+    while i < len(fs):
+        j = i
+        while j < len(fs) and fs[j] == fs[i]:
+            j += 1
+        text += b"%d,%d,%d,%s\r\n" % (at, len(fs[i]), j - i, fs[i].hex().upper().encode())
+        at += (j - i) * len(fs[i])
+        i = j
+    return text
+
+
+def refused(number):
+    return b"refused,%d\r\n" % number
+
+
+def listing(s):
+    return refused(1) if len(s) > 4096 else HEADER + lines(factors(s), 0)
+
+
+def edited(s, b, csv):
+    if len(s) > 4096:
+        return refused(1)
+    m = re.fullmatch(rb"from,to\r\n([0-9]{1,5}),([0-9]{1,5})\r\n", csv)
+    if not m or not int(m[1]) <= int(m[2]) <= len(s):
+        return refused(2)
+    f, t = int(m[1]), int(m[2])
+    if len(b) > 256:
+        return refused(3)
+    e = s[:f] + b + s[t:]
+    if len(e) > 4096:
+        return refused(4)
+    old, new = factors(s), factors(e)
+    kept = end = 0
+    while kept < min(len(old), len(new)) and old[kept] == new[kept] and end + len(old[kept]) <= f:
+        end += len(old[kept])
+        kept += 1
+    starts = [sum(map(len, new[:i])) for i in range(len(new))]
+    resume = next((p for p in range(t, len(s)) if f + len(b) + p - t in starts), len(s))
+    place = f + len(b) + resume - t
+    middle = [g for g, a in zip(new, starts) if end <= a < place]
+    rest = [g for g, a in zip(new, starts) if a >= place]
+    return HEADER + lines(new[:kept], 0) + lines(middle, end) + lines(rest, place)
+
+
+def run(program, stdin, files):
+    with tempfile.TemporaryDirectory() as folder:
+        for name, content in files.items():
+            with open(os.path.join(folder, name), "wb") as f:
+                f.write(content)
+        return subprocess.run([program], input=stdin, cwd=folder, stdout=subprocess.PIPE, timeout=60).stdout
+
+
+def listing_cases():
+    rnd = random.Random(5)
+    full = bytes(rnd.randrange(256) for _ in range(4096))
+    yield "the worked example", SHEET, listing(SHEET)
+    yield "the worked example, literally", SHEET, HEADER + b"0,3,1,616362\r\n3,3,2,616263\r\n9,4,1,61626163\r\n"
+    for name, s in [("empty", b""), ("4,096 bytes", full), ("4,097 bytes", full + b"a"), ("65,549 bytes", bytes(65549)),
+                    ("high bytes", bytes([0x7F, 0x80, 0x80, 0x7F, 255, 0, 255])), ("many groups", bytes(255 - i // 16 for i in range(4080))),
+                    ("one group", b"a" * 4096), ("a line feed counts", b"ab\n")]:
+        yield name, s, listing(s)
+    for i in range(100):
+        s = bytes(rnd.choice(b"ab\x80") for _ in range(rnd.randrange(30)))
+        yield "random %d" % i, s, listing(s)
+
+
+def edited_cases():
+    rnd = random.Random(6)
+    full = bytes(rnd.randrange(256) for _ in range(4096))
+    seam = HEADER + b"0,1,1,61\r\n1,1,1,61\r\n2,1,1,61\r\n"
+    yield "equal words across the seams", {"pattern.bin": b"aa", "block.bin": b"a", "edit.csv": EDIT + b"1,1\r\n"}, seam
+    for name, s, b, row in [("P5", SHEET, b"b", b"5,6"), ("P6", SHEET, b"a", b"11,11"), ("P13, leading zeros", b"aba", b"c", b"00003,3"),
+                            ("emptied", SHEET, b"", b"0,13"), ("full size", full, full[:256], b"1000,1256"), ("4", full, b"xx", b"5,5"),
+                            ("3", SHEET, bytes(257), b"0,1"), ("2 before 3", SHEET, bytes(257), b"5,4"), ("past the end", SHEET, b"", b"0,14")]:
+        csv = EDIT + row + b"\r\n"
+        yield name, {"pattern.bin": s, "block.bin": b, "edit.csv": csv}, edited(s, b, csv)
+    yield "1 before 2", {"pattern.bin": full + b"a", "block.bin": b"", "edit.csv": b""}, refused(1)
+    for i, csv in enumerate([EDIT + b"5,6\r", EDIT + b"5,6\r\n\r\n", EDIT + b"5,6\r\n7,8\r\n", EDIT + b"000005,6\r\n", EDIT + b",6\r\n", EDIT + b"5,\r\n",
+                             EDIT + b"5, 6\r\n", EDIT + b"+5,6\r\n", EDIT + b"-5,6\r\n", EDIT + b'"5",6\r\n', b"\xef\xbb\xbf" + EDIT + b"5,6\r\n",
+                             b"from,to\n5,6\n", b"from,tO\r\n5,6\r\n", b"5,6\r\n", EDIT, b"", EDIT + b"5;6\r\n", EDIT + b"5,6\r\nx", EDIT + b"5,6,7\r\n",
+                             EDIT + b"12345,12345\r\n", EDIT + b"12345,12345\r\nx"]):
+        yield "malformed %d" % i, {"pattern.bin": SHEET, "block.bin": b"b", "edit.csv": csv}, refused(2)
+    yield "no pattern, no block", {"edit.csv": EDIT + b"0,0\r\n"}, HEADER
+    yield "no file", {}, refused(2)
+    for i in range(100):
+        s = bytes(rnd.choice(b"ab\x80") for _ in range(rnd.randrange(30)))
+        b = bytes(rnd.choice(b"ab\x80") for _ in range(rnd.randrange(4)))
+        f = rnd.randrange(len(s) + 1)
+        csv = EDIT + b"%d,%d\r\n" % (f, rnd.randrange(f, len(s) + 1))
+        yield "random %d" % i, {"pattern.bin": s, "block.bin": b, "edit.csv": csv}, edited(s, b, csv)
+
+
+def main():
+    folder = os.path.abspath(sys.argv[1])
+    passed = failed = 0
+    runs = [("listing", name, (s, {}), want) for name, s, want in listing_cases()]
+    runs += [("edited", name, (b"", files), want) for name, files, want in edited_cases()]
+    for program, name, given, want in runs:
+        got = run(os.path.join(folder, program), *given)
+        if got == want:
+            passed += 1
+        else:
+            failed += 1
+            print("%s, %s: printed %r, not %r" % (program, name, got[:200], want[:200]))
+    print("%d passed, %d failed" % (passed, failed))
+    return failed != 0
+
+
+sys.exit(main())
