@@ -8,6 +8,7 @@ use libc::STDOUT_FILENO;
 use lyndon::last_factors;
 use lyndon::lyndon_array;
 use lyndon_edit::edit_numbers;
+use refusal_text::refusal_line;
 use refusals::MAX_PATTERN;
 ghost use Rattle.io.specs.Counts.{Counts};
 
@@ -30,11 +31,11 @@ fn read_file(path: &[u8], bytes: &mut [u8]) -> usize
     n
 }
 
-// The refusal line; the numbers have one digit.
 fn print_refusal(number: u8) {
-    let mut line = *b"refused,0\r\n";
-    line[8] = b'0' + number % 10;
-    io::write_all(STDOUT_FILENO, &line);
+    let line = refusal_line(number);
+    let bytes = line.bytes;
+    let size = line.size;
+    io::write_all(STDOUT_FILENO, &bytes[..size]);
 }
 
 fn refusal_of(answer: Answer) -> u8 {

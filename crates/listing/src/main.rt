@@ -2,8 +2,14 @@
 use libc::STDIN_FILENO;
 use libc::STDOUT_FILENO;
 use lyndon_text::write_listing;
+use refusal_text::refusal_line;
 
-const REFUSED: [u8; 11] = *b"refused,1\r\n";
+fn print_refusal(number: u8) {
+    let line = refusal_line(number);
+    let bytes = line.bytes;
+    let size = line.size;
+    io::write_all(STDOUT_FILENO, &bytes[..size]);
+}
 
 fn main() {
     let mut pattern = [0u8; 4097];
@@ -11,7 +17,7 @@ fn main() {
     let mut text = [0u8; 77849];
     let answer = write_listing(&pattern[..n], &mut text);
     if answer.refusal != 0 {
-        io::write_all(STDOUT_FILENO, &REFUSED);
+        print_refusal(answer.refusal);
         return;
     }
     let count = answer.count;

@@ -27,11 +27,8 @@ slice-aggregate-write-listing-2 c = search needs
 write-listing-requires : tie.Need-write-listing-requires
 write-listing-requires c κs = search needs
 
-slice-aggregate-write-all : tie.Need-slice-aggregate-write-all
-slice-aggregate-write-all c = search needs
-
-write-all-requires : tie.Need-write-all-requires
-write-all-requires c κs = search needs
+print-refusal-requires : tie.Need-print-refusal-requires
+print-refusal-requires c κs = search needs
 
 returns : tie.Need-returns
 returns c = search needs
@@ -39,11 +36,11 @@ returns c = search needs
 array-share-prefix-text : tie.Need-array-share-prefix-text
 array-share-prefix-text c = printed-within (c .before .before .before .write-listing .ensures)
 
-slice-aggregate-write-all-2 : tie.Need-slice-aggregate-write-all-2
-slice-aggregate-write-all-2 c = printed-long (c .before .before .before .before .write-listing .ensures)
+slice-aggregate-write-all : tie.Need-slice-aggregate-write-all
+slice-aggregate-write-all c = printed-long (c .before .before .before .before .write-listing .ensures)
 
-write-all-requires-2 : tie.Need-write-all-requires-2
-write-all-requires-2 c κs = search needs
+write-all-requires : tie.Need-write-all-requires
+write-all-requires c κs = search needs
 
 returns-2 : tie.Need-returns-2
 returns-2 c = search needs
@@ -58,10 +55,9 @@ main-spec =
     slice-aggregate-write-listing
     slice-aggregate-write-listing-2
     write-listing-requires
-    slice-aggregate-write-all
-    write-all-requires
+    print-refusal-requires
     returns
     array-share-prefix-text
-    slice-aggregate-write-all-2
-    write-all-requires-2
+    slice-aggregate-write-all
+    write-all-requires
     returns-2)
