@@ -1,12 +1,13 @@
 //! Times the engine's calls against the same algorithms in safe Rust, on 4,096 bytes of seven families, and prints a table.
 //! The two sides take turns, in rounds over all inputs, and the least time of all passes counts: other work on the machine comes and goes.
 mod engine;
+mod families;
 mod plain;
 
+use families::{Family, SIZE, families, fibonacci};
 use std::hint::black_box;
 use std::time::{Duration, Instant};
 
-const SIZE: usize = 4096;
 const ROUNDS: usize = 12;
 const PASSES: usize = 40;
 const SLOT: Duration = Duration::from_micros(40);
@@ -52,43 +53,6 @@ const CONTESTS: [Contest; 5] = [
         target: f64::INFINITY,
     },
 ];
-
-/// Words for a processor that would learn a single one by heart, as it does after some hundred passes over the same 4,096 bytes.
-fn random(letters: u64) -> Vec<Vec<u8>> {
-    let mut state = 0x9E37_79B9_7F4A_7C15_u64;
-    let mut letter = || {
-        state ^= state << 13;
-        state ^= state >> 7;
-        state ^= state << 17;
-        ((state >> 32) % letters) as u8
-    };
-    (0..64)
-        .map(|_| (0..SIZE).map(|_| letter()).collect())
-        .collect()
-}
-
-fn fibonacci() -> Vec<u8> {
-    let (mut last, mut word) = (b"b".to_vec(), b"a".to_vec());
-    while word.len() < SIZE {
-        let next = [&word[..], &last].concat();
-        last = std::mem::replace(&mut word, next);
-    }
-    word.truncate(SIZE);
-    word
-}
-
-fn families() -> Vec<(&'static str, Vec<Vec<u8>>)> {
-    let up = |n| [vec![b'a'; n - 1], vec![b'b']].concat();
-    vec![
-        ("random bytes", random(256)),
-        ("random, two letters", random(2)),
-        ("Fibonacci", vec![fibonacci()]),
-        ("a^n", vec![vec![b'a'; SIZE]]),
-        ("a^n b", vec![up(SIZE)]),
-        ("(ab)^n", vec![b"ab".repeat(SIZE / 2)]),
-        ("a^m b a^m b", vec![up(SIZE / 2).repeat(2)]),
-    ]
-}
 
 /// What a call answers and leaves in a row that was all 7.
 fn outcome(call: Call, s: &[u8]) -> (usize, Vec<u16>) {
@@ -175,7 +139,7 @@ fn main() {
     print(&families, &table);
 }
 
-fn print(families: &[(&str, Vec<Vec<u8>>)], table: &[[Times; CONTESTS.len()]]) {
+fn print(families: &[Family], table: &[[Times; CONTESTS.len()]]) {
     let names: Vec<_> = CONTESTS.iter().map(|c| c.name).collect();
     println!(
         "| engine / Rust, ns | {} |\n|---{}|",
