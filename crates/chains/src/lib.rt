@@ -12,7 +12,7 @@ ghost use Rattle.words.specs.Tables.{lyndonArray, lastFactors, prefixGroups, su
 ghost use Rattle.chains.specs.Last.{LastGroup};
 
 // The group of factors that starts at i.
-fn group_at(s: &[u8], table: &[u16], i: usize) -> Stretch
+pub fn group_at(s: &[u8], table: &[u16], i: usize) -> Stretch
     requires { ⌜ (i < length (now s)) × (take (length (now s)) (now table) ≡ lyndonArray (now s)) ⌝ }
     ensures { λ r. ⌜ NextGroup (now (s .entry)) i (r .length) (r .power) ⌝ }
 {

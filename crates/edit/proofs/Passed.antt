@@ -100,7 +100,7 @@ module _ (s array last : List ℕ) (from to : ℕ) (b : List ℕ) where
     array-long : length s ≤ length array
     array-long = not-over (length s) (length array) (λ h. omega (arith, e, refuses-array-short s array last from to b passed-shape h))
 
-    passed-table : take (length s) array ≡ lyndonArray s
+    pub passed-table : take (length s) array ≡ lyndonArray s
     passed-table =
         same-true (take (length s) array) (lyndonArray s)
         (not-wrong _ (λ h. omega (arith, e, refuses-array s array last from to b passed-shape array-long h)))

@@ -5,13 +5,13 @@ use Prim.Native.Nat.{ℕ, zero, suc, _+_, _-_, _*_, _≤_}
 use native.Mathlib.Omega.{arith}
 use lib.ListN.{length, take, drop, length-append}
 use lib.Seq.{take-at, length-take-le}
-use Rattle.edit.proofs.Passed.{first-earlier, passed-shape}
+use Rattle.edit.proofs.Passed.{first-earlier, passed-shape, passed-table}
 use Rattle.edit.proofs.Refused.{Shaped}
 use Rattle.edit.specs.Core.{editRefusals, countsOf}
 use Rattle.edit.specs.declared.Answer.{Answer}
 use Rattle.edit.specs.declared.Answer.the-variants.{Done}
 use Rattle.edit.specs.declared.Counts.{Counts}
-use Rattle.edited_text.specs.Parts.{Answered, Writes}
+use Rattle.edited_text.specs.Answered.{Answered, Writes}
 use Rattle.lyndon_edit.proofs.Answered.{done-accepted}
 use Rattle.lyndon_edit.specs.Calls.{EditsNumbers}
 use Rattle.refusals.specs.Refusals.{Refusal, firstOf, rowAfter, tooShort}
@@ -48,14 +48,17 @@ module _ {s array last : List ℕ} {from to : ℕ} {b row row′ starts starts�
   counts : c ≡ countsOf s from to b
   counts = sym (accepted .1)
 
+  passed : firstOf (editRefusals s array last from to b) ≡ 0
+  passed = first-zero (editRefusals s array last from to b) rooms (accepted .0)
+
   shape : Shaped s from to b
-  shape = passed-shape s array last from to b refl (first-zero (editRefusals s array last from to b) rooms (accepted .0))
+  shape = passed-shape s array last from to b refl passed
 
   groups-counted : c .groups ≡ length (middleGroups s from to b)
   unfolding countsOf
   groups-counted = ap (λ x. x .groups) counts
 
-  pub taken : Answered s from to b c row′
+  pub taken : Answered s array from to b c row′
   taken =
       let out = groupNumbers (middleGroups s from to b) in
       let w = e .fills .middle ∙ row-written (firstOf (editRefusals s array last from to b ++ rooms)) out row (accepted .0) in
@@ -64,13 +67,15 @@ module _ {s array last : List ℕ} {from to : ℕ} {b row row′ starts starts�
         start = shape .start;
         stretch = shape .stretch;
         fits = omega (arith, length-edited s from to b (shape .start) (shape .stretch), shape .fits);
+        table = passed-table s array last from to b refl passed;
         numbers = counts;
         groups = ap (take (3 * c .groups)) w ∙ take-at out (drop (length out) row) (3 * c .groups) n;
       }
 
 -- the buffer suffices, and what is counted lies within it
-pub text-room : {s : List ℕ} {from to : ℕ} {b : List ℕ} {c : Counts} {row : List ℕ} → Answered s from to b c row → length (editedText s from to b) ≤ 77849
-text-room {s} {from} {to} {b} a = edited-room s from to b (a .start) (a .stretch) (a .fits)
+pub text-room : {s array : List ℕ} {from to : ℕ} {b : List ℕ} {c : Counts} {row : List ℕ} → Answered s array from to b c row
+    → length (editedText s from to b) ≤ 77849
+text-room {s} {array} {from} {to} {b} a = edited-room s from to b (a .start) (a .stretch) (a .fits)
 
 module _ {s : List ℕ} {from to : ℕ} {b buffer buffer′ : List ℕ} {n : ℕ} (w : Writes s from to b buffer buffer′ n) where
   pub text-within : n ≤ length buffer′

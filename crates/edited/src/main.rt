@@ -77,7 +77,7 @@ fn print_edited(pattern: &[u8], block: &[u8], csv: &[u8]) {
         return;
     };
     let mut text = [0u8; 77849];
-    let size = write_edited(pattern, from, to, block, counts, &middle, &mut text);
+    let size = write_edited(pattern, &array, from, to, block, counts, &middle, &mut text);
     io::write_all(STDOUT_FILENO, &text[..size]);
 }
 

@@ -12,7 +12,8 @@ use Rattle.words.proofs.Edit.{resumeFactor, kept-same, kept-first, resume-first
 use Rattle.words.proofs.EditParts.{end-le, end-part}
 use Rattle.words.specs.Edit.{edited, place, kept, resume, middle, middleGroups}
 use Rattle.words.specs.Factors.{join, factors, startAt, startsWith, Group, withFactor, groupsFrom, groupNumbers}
-use Rattle.edited_text.specs.Parts.{Answered, Joined}
+use Rattle.edited_text.specs.Answered.{Answered}
+use Rattle.edited_text.specs.Parts.{Joined}
 
 -- groups of at least one factor, the first of which starts at i
 with-some : (b : Bool) (i l : ℕ) (gs : List Group) → 0 < length (withFactor b i l gs)
@@ -47,12 +48,12 @@ taken-some zero row h = absurd (omega arith)
 taken-some (suc k) [] h = h
 taken-some (suc k) (x ∷ row) h = omega arith
 
-module _ {s : List ℕ} {from to : ℕ} {b : List ℕ} {c : Counts} {row : List ℕ} (a : Answered s from to b c row) where
-  resume-def : c .resume ≡ resume s from to b
+module _ {s array : List ℕ} {from to : ℕ} {b : List ℕ} {c : Counts} {row : List ℕ} (a : Answered s array from to b c row) where
+  pub resume-def : c .resume ≡ resume s from to b
   unfolding countsOf
   resume-def = ap (λ x. x .resume) (a .numbers)
 
-  groups-def : c .groups ≡ length (middleGroups s from to b)
+  pub groups-def : c .groups ≡ length (middleGroups s from to b)
   unfolding countsOf
   groups-def = ap (λ x. x .groups) (a .numbers)
 

@@ -50,7 +50,7 @@ module _ (s : List ℕ) (from to : ℕ) (b : List ℕ) (h : from ≤ to) (l : to
   abbrev t : List ℕ
   t = edited s from to b
 
-  kept-end : end ≡ startAt (factors t) (kept s from to b)
+  pub kept-end : end ≡ startAt (factors t) (kept s from to b)
   kept-end = j .first ∙ ap (λ fs. length (join fs)) (kept-same s from to b h l)
 
   resume-start : q ≡ startAt (factors t) (resumeFactor s from to b)
@@ -71,7 +71,7 @@ module _ (s : List ℕ) (from to : ℕ) (b : List ℕ) (h : from ≤ to) (l : to
       (ap (λ n. factors (take n t)) kept-end ∙ ap factors (take-end c t)
       ∙ factors-left t (take c (factors t)) (drop c (factors t)) (sym (take-append-drop c (factors t))) ∙ sym (kept-same s from to b h l))
 
-  second-part : suffixGroups (take q t) end ≡ middleGroups s from to b
+  pub second-part : suffixGroups (take q t) end ≡ middleGroups s from to b
   second-part = ap₂ (λ n i. suffixGroups (take n t) i) (j .last) (j .first) ∙ middle-suffix s from to b h l
 
   third-part : suffixGroups t q ≡ resumedGroups s from to b

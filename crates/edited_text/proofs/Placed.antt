@@ -13,8 +13,9 @@ use Rattle.words.proofs.Edit.{length-edited}
 use Rattle.words.specs.Edit.{edited}
 use Rattle.words.specs.Tables.{suffixGroups}
 use Rattle.edit.specs.declared.Counts.{Counts}
-use Rattle.edited_text.specs.Parts.{Answered, Writes, partsText, Joined}
-use Rattle.edited_text.proofs.Parted.{parts-edited, parts-order, parts-fit}
+use Rattle.edited_text.specs.Answered.{Answered, Writes}
+use Rattle.edited_text.specs.Parts.{partsText, Joined}
+use Rattle.edited_text.proofs.Parted.{parts-edited}
 
 -- a text of two parts: the first has room where the whole has, and behind it the second
 pub room-front : (xs ys : List ℕ) (i : ℕ) (row : List ℕ) → Room (xs ++ ys) i row → Room xs i row
@@ -66,7 +67,7 @@ module _ (t : List ℕ) (end q : ℕ) where
           puts-parts last = puts-then first (puts-then second (puts-then third last room-two) room-one) room-header
 
 -- the edited pattern in the row to which it was spliced
-module _ {s : List ℕ} {from to : ℕ} {b : List ℕ} {c : Counts} {middle : List ℕ} (a : Answered s from to b c middle) where
+module _ {s array : List ℕ} {from to : ℕ} {b : List ℕ} {c : Counts} {middle : List ℕ} (a : Answered s array from to b c middle) where
   size : length (edited s from to b) ≡ from + length b + (length s - to)
   size = length-edited s from to b (a .start) (a .stretch)
 
@@ -80,18 +81,12 @@ module _ {s : List ℕ} {from to : ℕ} {b : List ℕ} {c : Counts} {middle : Li
     pub spliced-long : from + length b + (length s - to) ≡ length (take (from + length b + (length s - to)) row′)
     spliced-long = sym (length-take-le (from + length b + (length s - to)) row′ spliced-within)
 
-    spliced : take (from + length b + (length s - to)) row′ ≡ edited s from to b
+    pub spliced : take (from + length b + (length s - to)) row′ ≡ edited s from to b
     spliced =
         ap (take (from + length b + (length s - to))) w
         ∙ take-at (edited s from to b) (drop (length (edited s from to b)) row) (from + length b + (length s - to)) size
 
     module _ {end q : ℕ} (j : Joined s from to b end q) where
-      pub parts-in-order : end ≤ q
-      parts-in-order = parts-order s from to b (a .start) (a .stretch) end q j
-
-      pub parts-within : q ≤ length (take (from + length b + (length s - to)) row′)
-      parts-within = rw spliced (parts-fit s from to b (a .start) (a .stretch) end q j)
-
       same-text : partsText (take (from + length b + (length s - to)) row′) end q ≡ editedText s from to b
       same-text = ap (λ t. partsText t end q) spliced ∙ parts-edited s from to b (a .start) (a .stretch) end q j
 

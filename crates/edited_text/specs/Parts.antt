@@ -1,36 +1,39 @@
--- What the writer of the edited listing is handed, and what it leaves.
+-- What the inner functions of the writer are stated by: where the three parts of the edited pattern meet, and where each part's groups are
+-- read off.
 use mathlib.Core.List.{List, _++_}
 use mathlib.Core.Path.{_≡_}
-use Prim.Native.Nat.{ℕ, _*_, _≤_}
-use lib.ListN.{length, take}
-use Rattle.edit.specs.Core.{countsOf}
-use Rattle.edit.specs.declared.Counts.{Counts}
-use Rattle.refusals.specs.Refusals.{maxPattern}
-use Rattle.rows.specs.Row.{written}
-use Rattle.text.specs.Listing.{header, lines, editedText}
-use Rattle.words.specs.Edit.{edited, place, kept, resume, middleGroups}
+use Prim.Native.Nat.{ℕ, _≤_}
+use lib.ListN.{length, take, drop}
+use Rattle.text.specs.Listing.{header, lines}
+use Rattle.words.specs.Edit.{place, kept, resume}
 use Rattle.words.specs.Factors.{factors, startAt, groupNumbers}
-use Rattle.words.specs.Tables.{suffixGroups}
-
--- An accepted edit with its answer: the numbers, and the middle groups in the first entries of the row.
-pub record Answered (s : List ℕ) (from to : ℕ) (b : List ℕ) (c : Counts) (row : List ℕ) : Type 0 where
-  pub start : from ≤ to
-  pub stretch : to ≤ length s
-  pub fits : length (edited s from to b) ≤ maxPattern
-  pub numbers : c ≡ countsOf s from to b
-  pub groups : take (3 * c .groups) row ≡ groupNumbers (middleGroups s from to b)
+use Rattle.words.specs.Tables.{lyndonArray, suffixGroups}
 
 -- Where the parts meet in the edited pattern.
 pub record Joined (s : List ℕ) (from to : ℕ) (b : List ℕ) (end q : ℕ) : Type 0 where
   pub first : end ≡ startAt (factors s) (kept s from to b)
   pub last : q ≡ place from to b (resume s from to b)
 
+-- From place k on the row holds the numbers of the groups of s from place i on.
+pub record Ahead (s : List ℕ) (i : ℕ) (row : List ℕ) (k : ℕ) : Type 0 where
+  pub holds : take (length (groupNumbers (suffixGroups s i))) (drop k row) ≡ groupNumbers (suffixGroups s i)
+
+-- A pattern with its Lyndon array, of which the part from `start` on stands in t from place q on.
+pub record Stands (s array : List ℕ) (start : ℕ) (t : List ℕ) (q : ℕ) : Type 0 where
+  pub table : take (length s) array ≡ lyndonArray s
+  pub stored : start ≤ length s
+  pub place : q ≤ length t
+  pub same : drop start s ≡ drop q t
+
+-- The three parts of t: the first is that of s, the groups of the second are in the row, and the third is the ending of s from `resume` on.
+pub record Parted (s array : List ℕ) (resume : ℕ) (t : List ℕ) (end q : ℕ) (row : List ℕ) : Type 0 where
+  pub order : end ≤ q
+  pub whole : end ≤ length s
+  pub first : Stands (take end s) array 0 (take end t) 0
+  pub middle : Ahead (take q t) end row 0
+  pub last : Stands s array resume t q
+
 -- The header and the lines of three parts of t, each with the groups of its own.
 unfoldable pub partsText : List ℕ → ℕ → ℕ → List ℕ
 partsText t end q =
     header ++ (lines (take end t) (suffixGroups (take end t) 0) ++ (lines (take q t) (suffixGroups (take q t) end) ++ lines t (suffixGroups t q)))
-
--- The buffer begins with the edited listing, the rest is as before, and the answer is the listing's length.
-pub record Writes (s : List ℕ) (from to : ℕ) (b buffer buffer′ : List ℕ) (r : ℕ) : Type 0 where
-  pub size : r ≡ length (editedText s from to b)
-  pub leaves : buffer′ ≡ written (editedText s from to b) buffer

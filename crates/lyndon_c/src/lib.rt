@@ -1,4 +1,4 @@
-// The calls of `lyndon` under C names, on numbers and slices: the answer is the refusal's number, and what else is told goes through `&mut`.
+// The calls of `lyndon` and `lyndon_text` under C names, on numbers and slices: the answer is the refusal's number, and what else is told goes through `&mut`.
 // Each body is the call and the taking apart of its answer; include/lyndon.h declares them. Slices stand before numbers in every list of
 // parameters: a slice that got the last register and a place on the stack would not be found where Rust puts one.
 use lyndon::factor;
@@ -9,8 +9,10 @@ use lyndon::last_factors;
 use lyndon::least_rotation;
 use lyndon::longest_word;
 use lyndon::longest_words;
+use lyndon_text::write_listing;
 ghost use Rattle.lyndon.specs.Calls.{Factored, ArrayMade, LastFactorsMade, StartsListed, wordPart};
 ghost use Rattle.lyndon.specs.Calls.{LyndonTold, RotationFound, TreeListed, PrefixFactored, SuffixFactored};
+ghost use Rattle.lyndon_text.specs.Calls.{ListingWritten};
 ghost use Rattle.lyndon_c.specs.Copied.{Copied};
 
 #[no_mangle]
@@ -140,6 +142,16 @@ pub extern "C" fn lyndon_factor_suffix(
         (record { refusal = r; count = now (count .exit) }) ⌝ }
 {
     let answer = factor_suffix(pattern, table, start, groups);
+    *count = answer.count;
+    answer.refusal
+}
+
+#[no_mangle]
+pub extern "C" fn lyndon_write_listing(pattern: &[u8], text: &mut [u8], count: &mut usize) -> u8
+    ensures { λ r. ⌜ ListingWritten (now (pattern .entry)) (now (text .entry)) (now (text .exit))
+        (record { refusal = r; count = now (count .exit) }) ⌝ }
+{
+    let answer = write_listing(pattern, text);
     *count = answer.count;
     answer.refusal
 }

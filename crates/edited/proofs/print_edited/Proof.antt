@@ -83,9 +83,12 @@ slice-aggregate-write-edited c = search needs
 slice-aggregate-write-edited-2 : tie.Need-slice-aggregate-write-edited-2
 slice-aggregate-write-edited-2 c = search needs
 
+slice-aggregate-write-edited-3 : tie.Need-slice-aggregate-write-edited-3
+slice-aggregate-write-edited-3 c = search needs
+
 write-edited-requires : tie.Need-write-edited-requires
 write-edited-requires c κs =
-    let a = taken (c .before .before .before .before .before .before .before .edit-numbers .ensures) (c .before .before .before .answer .given .1) in
+    let a = taken (c .before .before .before .before .before .before .before .before .edit-numbers .ensures) (c .before .before .before .before .answer .given .1) in
     (a, text-room a)
 
 array-share-prefix-text : tie.Need-array-share-prefix-text
@@ -127,6 +130,7 @@ print-edited-spec =
     returns-3
     slice-aggregate-write-edited
     slice-aggregate-write-edited-2
+    slice-aggregate-write-edited-3
     write-edited-requires
     array-share-prefix-text
     slice-aggregate-write-all

@@ -1,5 +1,6 @@
 -- `edited_text::write_edited` meets its contract: the parts of the spliced pattern are the parts of the edited listing.
-use Rattle.edited_text.proofs.Placed.{splice-fits, spliced-within, spliced-long, parts-in-order, parts-within, parts-room, writes}
+use Rattle.edited_text.proofs.Placed.{splice-fits, spliced-within, spliced-long, spliced, parts-room, writes}
+use Rattle.edited_text.proofs.Handed.{parted}
 use borrow.Author.Needs.{needs}
 use Rattle.edited_text.proofs.write_edited.Statement.{statement}
 use Rattle.edited_text.proofs.write_edited.Tie as tie
@@ -17,7 +18,7 @@ slice-aggregate-splice c = search needs
 
 splice-requires : tie.Need-splice-requires
 splice-requires c κs =
-    let a = c .before .before .before .before .before .before .pre .0 in
+    let a = c .before .before .before .before .before .before .before .pre .0 in
     (a .start, a .stretch, splice-fits a)
 
 add-m : tie.Need-add-m
@@ -30,29 +31,29 @@ add-m-2 : tie.Need-add-m-2
 add-m-2 c = search needs
 
 array-share-prefix-t : tie.Need-array-share-prefix-t
-array-share-prefix-t c = spliced-within (c .before .before .before .before .before .before .before .before .pre .0) _ (c .before .splice .ensures)
+array-share-prefix-t c = spliced-within (c .before .before .before .before .before .before .before .before .before .pre .0) _ (c .before .splice .ensures)
 
 slice-aggregate-write-parts : tie.Need-slice-aggregate-write-parts
 slice-aggregate-write-parts c =
-    let spliced = c .before .before in
-    spliced-long (spliced .before .before .before .before .before .before .before .pre .0) _ (spliced .splice .ensures)
+    let split = c .before .before in
+    spliced-long (split .before .before .before .before .before .before .before .before .pre .0) _ (split .splice .ensures)
 
 write-parts-requires : tie.Need-write-parts-requires
 write-parts-requires c κs =
-    let f = c .before .before .before .before .before .before .before .before .before .before in
+    let f = c .before .before .before .before .before .before .before .before .before .before .before in
     let w = c .before .before .before .splice .ensures in
     let j = c .before .before .before .before .before .joints .ensures in
-    (parts-in-order (f .pre .0) _ w j, parts-within (f .pre .0) _ w j, parts-room (f .pre .0) _ w j (f .args .buffer .now) (f .pre .1))
+    (parted (f .pre .0) j (spliced (f .pre .0) _ w), parts-room (f .pre .0) _ w j (f .args .buffer .now) (f .pre .1))
 
 same-length : tie.Need-same-length
 same-length c = search needs
 
 returns : tie.Need-returns
 returns c =
-    let spliced = c .before .before .before .before .before .before in
-    let joined = spliced .before .before in
-    let f = joined .before .before .before .before .before in
-    writes (f .pre .0) _ (spliced .splice .ensures) (joined .joints .ensures) (c .before .before .write-parts .ensures)
+    let split = c .before .before .before .before .before .before in
+    let joined = split .before .before in
+    let f = joined .before .before .before .before .before .before in
+    writes (f .pre .0) _ (split .splice .ensures) (joined .joints .ensures) (c .before .before .write-parts .ensures)
 
 pub write-edited-spec : {M : Type 1} → statement M
 write-edited-spec =
