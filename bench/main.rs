@@ -1,168 +1,112 @@
-//! Times the engine's calls against the same algorithms in safe Rust, on 4,096 bytes of seven families, and prints a table.
-//! The two sides take turns, in rounds over all inputs, and the least time of all passes counts: other work on the machine comes and goes.
+//! Times the engine's calls against the same algorithms in safe Rust, on 4,096 bytes of ten families: `main time` prints a line for each family and
+//! contest, and `main table` two tables of all the lines that it reads, from several links of this program. `main once CONTEST` runs one call of
+//! each side on the Fibonacci word, for a tool that counts instructions.
+#[allow(dead_code)]
+#[path = "../tests/compare/engine.rs"]
 mod engine;
+#[path = "../tests/compare/families.rs"]
 mod families;
+mod inputs;
 mod plain;
+mod plain_edit;
+mod plain_text;
+mod race;
+mod table;
+#[allow(dead_code)]
+#[path = "../tests/compare/tally.rs"]
+mod tally;
 
-use families::{Family, SIZE, families, fibonacci};
-use std::hint::black_box;
-use std::time::{Duration, Instant};
+use engine::{Answer, EditAnswer};
+use inputs::{END, Family, MIDDLE, START, Stored};
+use race::{Call, Contest};
+use std::fmt::Debug;
 
-const ROUNDS: usize = 12;
-const PASSES: usize = 40;
-const SLOT: Duration = Duration::from_micros(40);
+type OfWord = Contest<Vec<u8>, usize>;
+type OfEdit = Contest<Stored, EditAnswer>;
 
-type Call = fn(&[u8], &mut [u16]) -> usize;
+const NO_TARGET: f64 = f64::INFINITY;
 
-struct Contest {
-    name: &'static str,
-    engine: Call,
-    plain: Call,
-    target: f64,
+const fn contest<I, O>(name: &'static str, engine: Call<I, O>, plain: Call<I, O>, target: f64) -> Contest<I, O> {
+    Contest { name, engine, plain, target }
 }
 
-const CONTESTS: [Contest; 5] = [
-    Contest {
-        name: "factor",
-        engine: engine::factor,
-        plain: plain::factor,
-        target: 2.5,
-    },
-    Contest {
-        name: "lyndon_array",
-        engine: engine::array,
-        plain: plain::array,
-        target: 1.3,
-    },
-    Contest {
-        name: "lyndon_array, memcmp",
-        engine: engine::array,
-        plain: plain::array_by_memcmp,
-        target: f64::INFINITY,
-    },
-    Contest {
-        name: "last_factors",
-        engine: engine::last_factors,
-        plain: plain::last_factors,
-        target: f64::INFINITY,
-    },
-    Contest {
-        name: "least_rotation",
-        engine: engine::least_rotation,
-        plain: plain::least_rotation,
-        target: f64::INFINITY,
-    },
+/// The number that a call tells, which may not refuse.
+fn told((refusal, numbers): Answer) -> usize {
+    assert_eq!(refusal, 0);
+    numbers[0]
+}
+
+fn accepted(answer: EditAnswer) -> EditAnswer {
+    assert_eq!(answer.refusal, 0);
+    answer
+}
+
+const FACTOR: Call<Vec<u8>, usize> = |s, rows| told(engine::factor(s, &mut rows.numbers));
+const ARRAY: Call<Vec<u8>, usize> = |s, rows| told(engine::array(s, &mut rows.numbers));
+const LAST: Call<Vec<u8>, usize> = |s, rows| told(engine::last_factors(s, &mut rows.numbers));
+const ROTATION: Call<Vec<u8>, usize> = |s, _| told(engine::least_rotation(s));
+const LISTING: Call<Vec<u8>, usize> = |s, rows| told(engine::write_listing(s, &mut rows.text));
+
+const WORDS: [OfWord; 7] = [
+    contest("factor", FACTOR, |s, rows| plain::factor(s, &mut rows.numbers), 2.5),
+    contest("lyndon_array", ARRAY, |s, rows| plain::array(s, &mut rows.numbers), 1.3),
+    contest("lyndon_array, memcmp", ARRAY, |s, rows| plain::array_by_memcmp(s, &mut rows.numbers), NO_TARGET),
+    contest("last_factors", LAST, |s, rows| plain::last_factors(s, &mut rows.numbers), NO_TARGET),
+    contest("least_rotation", ROTATION, |s, _| plain::least_rotation(s), NO_TARGET),
+    contest("write_listing", LISTING, |s, rows| plain_text::listing(s, &mut rows.text), NO_TARGET),
+    contest("write_listing, one pass", LISTING, |s, rows| plain_text::listing_unmeasured(s, &mut rows.text), NO_TARGET),
 ];
 
-/// What a call answers and leaves in a row that was all 7.
-fn outcome(call: Call, s: &[u8]) -> (usize, Vec<u16>) {
-    let mut row = vec![7; 3 * SIZE];
-    let count = call(s, &mut row);
-    (count, row)
+const AT_START: Call<Stored, EditAnswer> = |s, rows| accepted(engine::edit(&s.at(START), &mut rows.records, &mut rows.starts));
+const IN_MIDDLE: Call<Stored, EditAnswer> = |s, rows| accepted(engine::edit(&s.at(MIDDLE), &mut rows.records, &mut rows.starts));
+const AT_END: Call<Stored, EditAnswer> = |s, rows| accepted(engine::edit(&s.at(END), &mut rows.records, &mut rows.starts));
+const NUMBERS: Call<Stored, EditAnswer> = |s, rows| accepted(engine::edit_numbers(&s.at(MIDDLE), &mut rows.numbers, &mut rows.starts));
+
+const EDITS: [OfEdit; 6] = [
+    contest("edit, start", AT_START, |s, rows| plain_edit::edit(&s.at(START), &mut rows.records, &mut rows.starts), 1.5),
+    contest("edit, middle", IN_MIDDLE, |s, rows| plain_edit::edit(&s.at(MIDDLE), &mut rows.records, &mut rows.starts), 1.5),
+    contest("edit, end", AT_END, |s, rows| plain_edit::edit(&s.at(END), &mut rows.records, &mut rows.starts), 1.5),
+    contest("edit_numbers, middle", NUMBERS, |s, rows| plain_edit::edit_numbers(&s.at(MIDDLE), &mut rows.numbers, &mut rows.starts), 1.5),
+    contest(
+        "edit, middle, one scan",
+        IN_MIDDLE,
+        |s, rows| plain_edit::scanned_once(&s.at(MIDDLE), &mut rows.records, &mut rows.starts),
+        NO_TARGET,
+    ),
+    contest(
+        "edit, middle, one scan, tables trusted",
+        IN_MIDDLE,
+        |s, rows| plain_edit::trusting(&s.at(MIDDLE), &mut rows.records, &mut rows.starts),
+        NO_TARGET,
+    ),
+];
+
+/// Whether there was such a contest.
+fn once<I, O: Debug + PartialEq>(contests: &[Contest<I, O>], name: &str, families: &[Family<I>]) -> bool {
+    let (_, inputs) = families.iter().find(|f| f.0 == "Fibonacci").expect("the family is there");
+    contests.iter().find(|c| c.name == name).map(|c| c.once(&inputs[0])).is_some()
 }
 
-/// The time of a call, from that of `times` calls on each word.
-fn nanoseconds(call: Call, words: &[Vec<u8>], row: &mut [u16], times: usize) -> f64 {
-    let start = Instant::now();
-    for _ in 0..times {
-        for s in words {
-            black_box(call(black_box(s), black_box(&mut *row)));
-        }
-    }
-    start.elapsed().as_nanos() as f64 / (times * words.len()) as f64
-}
-
-/// The least times of the engine and of plain Rust, in nanoseconds.
-#[derive(Clone, Copy)]
-struct Times {
-    engine: f64,
-    plain: f64,
-}
-
-impl Times {
-    const NONE: Times = Times {
-        engine: f64::INFINITY,
-        plain: f64::INFINITY,
-    };
-
-    fn measure(&mut self, contest: &Contest, words: &[Vec<u8>], row: &mut [u16]) {
-        let first = nanoseconds(contest.engine, words, row, 1) * words.len() as f64;
-        let times = (SLOT.as_nanos() as f64 / first).clamp(1.0, 100.0) as usize;
-        for _ in 0..PASSES {
-            self.engine = self
-                .engine
-                .min(nanoseconds(contest.engine, words, row, times));
-            self.plain = self
-                .plain
-                .min(nanoseconds(contest.plain, words, row, times));
-        }
-    }
-}
-
-/// One call of each side on the Fibonacci word, for a tool that counts instructions.
-fn once(name: &str) {
-    let s = fibonacci();
-    let contest = CONTESTS
-        .iter()
-        .find(|c| c.name == name)
-        .expect("no such contest");
-    black_box((outcome(contest.engine, &s), outcome(contest.plain, &s)));
+fn table<I, O>(contests: &[Contest<I, O>], families: &[&str], least: &table::Least) {
+    let columns: Vec<_> = contests.iter().map(|c| (c.name, c.target)).collect();
+    table::print(&columns, families, least);
 }
 
 fn main() {
-    if let Some(name) = std::env::args().nth(1) {
-        return once(&name);
-    }
-    let families = families();
-    for contest in &CONTESTS {
-        for (family, words) in &families {
-            for s in words {
-                assert_eq!(s.len(), SIZE);
-                assert_eq!(
-                    outcome(contest.engine, s),
-                    outcome(contest.plain, s),
-                    "{} of {family}",
-                    contest.name
-                );
-            }
+    let arguments: Vec<_> = std::env::args().skip(1).collect();
+    let words = inputs::words();
+    match &arguments.iter().map(String::as_str).collect::<Vec<_>>()[..] {
+        ["time"] => {
+            race::race(&WORDS, &words);
+            race::race(&EDITS, &inputs::stored(words));
         }
-    }
-    let mut table = vec![[Times::NONE; CONTESTS.len()]; families.len()];
-    let mut row = vec![0; 3 * SIZE];
-    for _ in 0..ROUNDS {
-        for (line, (_, words)) in table.iter_mut().zip(&families) {
-            for (times, contest) in line.iter_mut().zip(&CONTESTS) {
-                times.measure(contest, words, &mut row);
-            }
+        ["table"] => {
+            let families: Vec<_> = words.iter().map(|f| f.0).collect();
+            let least = table::read(std::io::stdin().lines().map(|line| line.expect("lines of text")));
+            table(&WORDS, &families, &least);
+            table(&EDITS, &families, &least);
         }
+        ["once", name] => assert!(once(&WORDS, name, &words) || once(&EDITS, name, &inputs::stored(words)), "no contest {name}"),
+        _ => panic!("time, table or once CONTEST"),
     }
-    print(&families, &table);
-}
-
-fn print(families: &[Family], table: &[[Times; CONTESTS.len()]]) {
-    let names: Vec<_> = CONTESTS.iter().map(|c| c.name).collect();
-    println!(
-        "| engine / Rust, ns | {} |\n|---{}|",
-        names.join(" | "),
-        "|---".repeat(names.len())
-    );
-    let mut over = 0;
-    for ((family, _), line) in families.iter().zip(table) {
-        print!("| {family} |");
-        for (times, contest) in line.iter().zip(&CONTESTS) {
-            let ratio = times.engine / times.plain;
-            let is_over = ratio > contest.target;
-            over += usize::from(is_over);
-            print!(
-                " {:.0} / {:.0} = {ratio:.2}{} |",
-                times.engine,
-                times.plain,
-                if is_over { " (over)" } else { "" }
-            );
-        }
-        println!();
-    }
-    println!(
-        "\nresults equal on all inputs; {over} over their target (factor 2.5, lyndon_array 1.3)"
-    );
 }

@@ -1,43 +1,62 @@
 //! The same algorithms as one writes them in safe Rust: what the engine is measured against. They refuse nothing; an index out of range panics.
+//! None is inlined into its caller, as the engine's are not, so that a tool finds them by name.
 #![forbid(unsafe_code)]
 
-/// One pass of Duval's algorithm: start, factor length and power of each group.
-pub fn factor(s: &[u8], groups: &mut [u16]) -> usize {
-    let mut count = 0;
-    let mut i = 0;
-    while i < s.len() {
-        let mut j = i + 1;
-        let mut k = i;
-        while j < s.len() && s[k] <= s[j] {
-            if s[k] < s[j] {
-                k = i;
-            } else {
-                k += 1;
-            }
-            j += 1;
+/// Factor length and power of the group that starts at i, by Duval's scan.
+fn group(s: &[u8], i: usize) -> (usize, usize) {
+    let (mut j, mut k) = (i + 1, i);
+    while j < s.len() && s[k] <= s[j] {
+        if s[k] < s[j] {
+            k = i;
+        } else {
+            k += 1;
         }
-        let length = j - k;
-        let power = (j - i) / length;
-        groups[3 * count..3 * count + 3].copy_from_slice(&[i as u16, length as u16, power as u16]);
+        j += 1;
+    }
+    (j - k, (j - i) / (j - k))
+}
+
+/// Start, factor length and power of each group from i on.
+pub fn groups(s: &[u8], mut i: usize) -> impl Iterator<Item = (usize, usize, usize)> {
+    std::iter::from_fn(move || {
+        (i < s.len()).then(|| {
+            let start = i;
+            let (length, power) = group(s, i);
+            i += length * power;
+            (start, length, power)
+        })
+    })
+}
+
+/// One pass over the groups, three numbers each.
+#[inline(never)]
+pub fn factor(s: &[u8], row: &mut [u16]) -> usize {
+    let mut count = 0;
+    for (start, length, power) in groups(s, 0) {
+        row[3 * count..3 * count + 3].copy_from_slice(&[start as u16, length as u16, power as u16]);
         count += 1;
-        i += power * length;
     }
     count
 }
 
-/// Lyndon words merged from the right while the left one is smaller, compared byte by byte.
-pub fn array(s: &[u8], table: &mut [u16]) -> usize {
-    merge(s, table, |a, b| {
-        for (x, y) in a.iter().zip(b) {
-            if x != y {
-                return x < y;
-            }
+/// Whether a is smaller than b, compared byte by byte.
+pub fn precedes(a: &[u8], b: &[u8]) -> bool {
+    for (x, y) in a.iter().zip(b) {
+        if x != y {
+            return x < y;
         }
-        a.len() < b.len()
-    })
+    }
+    a.len() < b.len()
+}
+
+/// Lyndon words merged from the right while the left one is smaller, compared byte by byte.
+#[inline(never)]
+pub fn array(s: &[u8], table: &mut [u16]) -> usize {
+    merge(s, table, precedes)
 }
 
 /// The same, compared by `<` of slices, which calls memcmp.
+#[inline(never)]
 pub fn array_by_memcmp(s: &[u8], table: &mut [u16]) -> usize {
     merge(s, table, |a, b| a < b)
 }
@@ -58,6 +77,7 @@ fn merge(s: &[u8], table: &mut [u16], less: impl Fn(&[u8], &[u8]) -> bool) -> us
 }
 
 /// Duval's scan with the length of the last factor at each place.
+#[inline(never)]
 pub fn last_factors(s: &[u8], table: &mut [u16]) -> usize {
     let mut i = 0;
     while i < s.len() {
@@ -80,29 +100,11 @@ pub fn last_factors(s: &[u8], table: &mut [u16]) -> usize {
 }
 
 /// The start of the first group of the doubled pattern that ends at its middle or after it.
-pub fn least_rotation(s: &[u8], _row: &mut [u16]) -> usize {
+#[inline(never)]
+pub fn least_rotation(s: &[u8]) -> usize {
     let n = s.len();
     let mut buffer = [0; 8192];
     buffer[..n].copy_from_slice(s);
     buffer[n..2 * n].copy_from_slice(s);
-    let twice = &buffer[..2 * n];
-    let mut i = 0;
-    while i < n {
-        let start = i;
-        let mut j = i + 1;
-        let mut k = i;
-        while j < twice.len() && twice[k] <= twice[j] {
-            if twice[k] < twice[j] {
-                k = i;
-            } else {
-                k += 1;
-            }
-            j += 1;
-        }
-        i = j - (j - i) % (j - k);
-        if n <= i {
-            return start;
-        }
-    }
-    0
+    groups(&buffer[..2 * n], 0).find(|(start, length, power)| n <= start + length * power).map_or(0, |group| group.0)
 }

@@ -1,38 +1,17 @@
 //! The steps of an edit as one writes them in safe Rust: both tables tested, the edited pattern spliced, its factors scanned, both rows written.
-//! It refuses wrong tables and short rows, as the engine does, before it writes.
+//! `edit` and `edit_numbers` scan as often as the engine; `scanned_once` scans once and keeps the groups, and `trusting` leaves out the tests too.
+//! They refuse wrong tables and short rows before they write; the other refusals are left to the engine.
 #![forbid(unsafe_code)]
-
-pub struct Edit {
-    pub pattern: Vec<u8>,
-    pub array: Vec<u16>,
-    pub last: Vec<u16>,
-    pub from: usize,
-    pub to: usize,
-    pub block: Vec<u8>,
-}
-
-#[repr(C)]
-#[derive(Clone, Copy, Debug, Default, PartialEq)]
-pub struct EditAnswer {
-    pub refusal: u8,
-    pub kept: usize,
-    pub resume: usize,
-    pub groups: usize,
-    pub length: usize,
-    pub starts: usize,
-}
+use crate::engine::{EditAnswer, Given, Group};
+use crate::plain::{groups, precedes};
+use std::cmp::Ordering;
 
 fn is_array(s: &[u8], table: &[u16]) -> bool {
     (0..s.len()).rev().all(|i| {
         let mut m = i + 1;
         while m < s.len() {
             let end = m + usize::from(table[m]);
-            let (a, b) = (&s[i..m], &s[m..end]);
-            let less = match a.iter().zip(b).find(|(x, y)| x != y) {
-                Some((x, y)) => x < y,
-                None => a.len() < b.len(),
-            };
-            if !less {
+            if !precedes(&s[i..m], &s[m..end]) {
                 break;
             }
             m = end;
@@ -64,32 +43,13 @@ fn is_last_factors(s: &[u8], table: &[u16]) -> bool {
     true
 }
 
-/// Factor length and power of the group that starts at i.
-fn group(s: &[u8], i: usize) -> (usize, usize) {
-    let (mut j, mut k) = (i + 1, i);
-    while j < s.len() && s[k] <= s[j] {
-        k = if s[k] < s[j] { i } else { k + 1 };
-        j += 1;
-    }
-    (j - k, (j - i) / (j - k))
-}
+/// Start, factor length and power.
+type Span = (usize, usize, usize);
 
-/// Start, factor length and power of each group from i on.
-fn groups(s: &[u8], mut i: usize) -> impl Iterator<Item = (usize, usize, usize)> {
-    std::iter::from_fn(move || {
-        (i < s.len()).then(|| {
-            let start = i;
-            let (length, power) = group(s, i);
-            i += length * power;
-            (start, length, power)
-        })
-    })
-}
-
-/// How many leading factors of t end by q, and where.
-fn ends(t: &[u8], q: usize) -> (usize, usize) {
+/// How many leading factors end by q, and where.
+fn ends(groups: impl Iterator<Item = Span>, q: usize) -> (usize, usize) {
     let (mut count, mut end) = (0, 0);
-    for (start, length, power) in groups(t, 0) {
+    for (start, length, power) in groups {
         let within = power.min((q - start) / length);
         count += within;
         end = start + within * length;
@@ -100,13 +60,10 @@ fn ends(t: &[u8], q: usize) -> (usize, usize) {
     (count, end)
 }
 
-fn first_start(t: &[u8], start: usize, q: usize) -> usize {
-    for (i, length, power) in groups(t, start) {
-        if q <= i + length * power {
-            return i + (q - i).div_ceil(length) * length;
-        }
-    }
-    t.len()
+/// The first start of a factor at or after q, or else the end n.
+fn first_start(mut groups: impl Iterator<Item = Span>, q: usize, n: usize) -> usize {
+    let reaching = groups.find(|(start, length, power)| q <= start + length * power);
+    reaching.map_or(n, |(start, length, _)| start + (q - start).div_ceil(length) * length)
 }
 
 fn stored_ends(array: &[u16], q: usize) -> (usize, usize) {
@@ -118,36 +75,110 @@ fn stored_ends(array: &[u16], q: usize) -> (usize, usize) {
     (count, end)
 }
 
-pub fn edit(e: &Edit, middle: &mut [u16], starts: &mut [u16]) -> EditAnswer {
-    if !is_array(&e.pattern, &e.array) || !is_last_factors(&e.pattern, &e.last) {
-        return EditAnswer { refusal: 5, ..EditAnswer::default() };
-    }
-    let mut buffer = [0; 4096];
+fn refused(refusal: u8) -> EditAnswer {
+    EditAnswer { refusal, kept: 0, resume: 0, groups: 0, length: 0, starts: 0 }
+}
+
+fn has_tables(e: &Given) -> bool {
+    is_array(e.pattern, e.array) && is_last_factors(e.pattern, e.last)
+}
+
+/// The edited pattern, at the front of the buffer.
+fn splice<'a>(e: &Given, buffer: &'a mut [u8; 4096]) -> &'a [u8] {
     let q = e.from + e.block.len();
     let size = q + e.pattern.len() - e.to;
     buffer[..e.from].copy_from_slice(&e.pattern[..e.from]);
-    buffer[e.from..q].copy_from_slice(&e.block);
+    buffer[e.from..q].copy_from_slice(e.block);
     buffer[q..size].copy_from_slice(&e.pattern[e.to..]);
-    let t = &buffer[..size];
-    let fresh = ends(t, e.from);
-    let place = first_start(t, fresh.1, q);
-    let (kept, end) = stored_ends(&e.array, e.from).min(fresh);
-    let count = groups(&t[..place], end).count();
-    let (mut length, mut times) = (0, 0);
-    for (_, size, power) in groups(t, 0) {
-        times = if length < size { power } else if length == size { times + power } else { times };
-        length = length.max(size);
-    }
-    if middle.len() < 3 * count || starts.len() < times {
-        return EditAnswer { refusal: 8, ..EditAnswer::default() };
-    }
-    for (out, (start, size, power)) in middle.chunks_exact_mut(3).zip(groups(&t[..place], end)) {
-        out.copy_from_slice(&[start as u16, size as u16, power as u16]);
-    }
-    let longest = groups(t, 0).filter(|g| g.1 == length);
+    &buffer[..size]
+}
+
+/// The length of the longest factors, and how many there are.
+fn longest(groups: impl Iterator<Item = Span>) -> (usize, usize) {
+    groups.fold((0, 0), |(length, count), (_, size, power)| match size.cmp(&length) {
+        Ordering::Greater => (size, power),
+        Ordering::Equal => (length, count + power),
+        Ordering::Less => (length, count),
+    })
+}
+
+/// Writes the starts of the factors of that length.
+fn put_starts(groups: impl Iterator<Item = Span>, length: usize, row: &mut [u16]) {
+    let longest = groups.filter(|g| g.1 == length);
     let all = longest.flat_map(|(start, size, power)| (0..power).map(move |k| start + k * size));
-    for (out, start) in starts.iter_mut().zip(all) {
+    for (out, start) in row.iter_mut().zip(all) {
         *out = start as u16;
     }
+}
+
+fn stepwise<T>(e: &Given, middle: &mut [T], starts: &mut [u16], entry: impl Fn([u16; 3]) -> T) -> EditAnswer {
+    if !has_tables(e) {
+        return refused(5);
+    }
+    let buffer = &mut [0; 4096];
+    let t = splice(e, buffer);
+    let q = e.from + e.block.len();
+    let fresh = ends(groups(t, 0), e.from);
+    let place = first_start(groups(t, fresh.1), q, t.len());
+    let (kept, end) = stored_ends(e.array, e.from).min(fresh);
+    let count = groups(&t[..place], end).count();
+    let (length, times) = longest(groups(t, 0));
+    if middle.len() < count || starts.len() < times {
+        return refused(8);
+    }
+    for (out, (start, size, power)) in middle.iter_mut().zip(groups(&t[..place], end)) {
+        *out = entry([start as u16, size as u16, power as u16]);
+    }
+    put_starts(groups(t, 0), length, starts);
     EditAnswer { refusal: 0, kept, resume: e.to + (place - q), groups: count, length, starts: times }
+}
+
+fn record([start, length, power]: [u16; 3]) -> Group {
+    Group { start, length, power }
+}
+
+#[inline(never)]
+pub fn edit(e: &Given, middle: &mut [Group], starts: &mut [u16]) -> EditAnswer {
+    stepwise(e, middle, starts, record)
+}
+
+#[inline(never)]
+pub fn edit_numbers(e: &Given, middle: &mut [u16], starts: &mut [u16]) -> EditAnswer {
+    stepwise(e, middle.as_chunks_mut().0, starts, |numbers| numbers)
+}
+
+/// The part of a group that lies between two ends of factors.
+fn clipped((start, length, power): Span, from: usize, to: usize) -> Option<Span> {
+    let (first, end) = (start.max(from), to.min(start + length * power));
+    (first < end).then(|| (first, length, (end - first) / length))
+}
+
+/// One scan of the edited pattern, whose groups are kept; the tables are not tested.
+#[inline(never)]
+pub fn trusting(e: &Given, middle: &mut [Group], starts: &mut [u16]) -> EditAnswer {
+    let buffer = &mut [0; 4096];
+    let t = splice(e, buffer);
+    let q = e.from + e.block.len();
+    let all: Vec<Span> = groups(t, 0).collect();
+    let all = || all.iter().copied();
+    let fresh = ends(all(), e.from);
+    let place = first_start(all(), q, t.len());
+    let (kept, end) = stored_ends(e.array, e.from).min(fresh);
+    let between = || all().filter_map(|group| clipped(group, end, place));
+    let count = between().count();
+    let (length, times) = longest(all());
+    if middle.len() < count || starts.len() < times {
+        return refused(8);
+    }
+    for (out, (start, size, power)) in middle.iter_mut().zip(between()) {
+        *out = record([start as u16, size as u16, power as u16]);
+    }
+    put_starts(all(), length, starts);
+    EditAnswer { refusal: 0, kept, resume: e.to + (place - q), groups: count, length, starts: times }
+}
+
+/// The same behind the test of both tables.
+#[inline(never)]
+pub fn scanned_once(e: &Given, middle: &mut [Group], starts: &mut [u16]) -> EditAnswer {
+    if has_tables(e) { trusting(e, middle, starts) } else { refused(5) }
 }

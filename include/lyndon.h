@@ -1,7 +1,9 @@
-/* The pattern engine for C: the functions of liblyndon_c.a, which `rt staticlib lyndon_c` writes to target/staticlib/ (x86-64 Linux).
+/* The pattern engine for C (x86-64 Linux). Two archives have its functions; `rt staticlib NAME` writes libNAME.a to target/staticlib/:
+ *   - liblyndon_edit_c.a has the two that answer an edit, lyndon_edit and lyndon_edit_numbers;
+ *   - liblyndon_c.a has all others. Neither needs the other, and a program may link both.
  *
- * Every function answers a refusal's number, 0 where nothing is refused. Bytes compare as unsigned numbers; positions count from 0.
- * Nothing is asked of the values: any pattern, position, table content and length is answered.
+ * Every function answers a refusal's number, 0 where nothing is refused: alone, or for an edit in a struct. Bytes compare as unsigned
+ * numbers; positions count from 0. Nothing is asked of the values: any pattern, position, table content and length is answered.
  *
  * A slice is two arguments, a pointer to its first entry and its length in entries. What C must see to, since nothing tests it:
  *   - no pointer is NULL, not even with length 0, and each is aligned for its type;
@@ -22,15 +24,22 @@
 extern "C" {
 #endif
 
-/* The longest pattern, and the longest word of a tree, in bytes. */
+/* The longest pattern, stored or edited, the longest block of an edit and the longest word of a tree, in bytes. */
 #define LYNDON_MAX_PATTERN 4096
+#define LYNDON_MAX_BLOCK 256
 #define LYNDON_MAX_TREE 256
+
+/* Rows of these lengths are enough for every pattern and every edit: the bytes of a listing, the middle groups of an edit. */
+#define LYNDON_MAX_LISTING 77849
+#define LYNDON_MAX_MIDDLE 270
 
 /* The refusals. Of two that apply, the smaller number is answered. */
 #define LYNDON_ACCEPTED 0
 #define LYNDON_PATTERN_TOO_LONG 1   /* over LYNDON_MAX_PATTERN bytes */
-#define LYNDON_PAST_END 2           /* a position past the end of the pattern; its length itself is a position */
-#define LYNDON_NOT_THE_TABLE 5      /* the lent table is shorter than the pattern, or one of its first pattern_len entries is not the pattern's */
+#define LYNDON_PAST_END 2           /* a position past the end of the pattern, whose length itself is a position; or `from` > `to` */
+#define LYNDON_BLOCK_TOO_LONG 3     /* over LYNDON_MAX_BLOCK bytes */
+#define LYNDON_EDITED_TOO_LONG 4    /* the edited pattern has over LYNDON_MAX_PATTERN bytes */
+#define LYNDON_NOT_THE_TABLE 5      /* a lent table is shorter than the pattern, or one of its first pattern_len entries is not the pattern's */
 #define LYNDON_WORD_TOO_LONG 6      /* over LYNDON_MAX_TREE bytes */
 #define LYNDON_NOT_LYNDON 7         /* the string is no Lyndon word */
 #define LYNDON_ROW_TOO_SHORT 8      /* the result has more entries than the row */
@@ -74,6 +83,43 @@ uint8_t lyndon_factor_prefix(const uint8_t *pattern, size_t pattern_len, const u
  * Row: 3 entries a group; 3 * (pattern_len - start) are always enough. Refusals 1, 2, 5, 8. */
 uint8_t lyndon_factor_suffix(const uint8_t *pattern, size_t pattern_len, const uint16_t *lyndon_array, size_t lyndon_array_len,
                              uint16_t *groups, size_t groups_len, size_t start, size_t *count);
+
+/* The listing of the pattern's groups as CSV: `start,length,power,word`, then a line for each group with the factor's bytes in upper-case
+ * hexadecimal; carriage return and line feed close each line, and no zero byte is added. Sets *count to the number of bytes.
+ * Row: a byte for each of the listing's; LYNDON_MAX_LISTING are always enough. Refusals 1, 8. */
+uint8_t lyndon_write_listing(const uint8_t *pattern, size_t pattern_len, uint8_t *text, size_t text_len, size_t *count);
+
+/* A group in a row of records: start, length of one factor, power. */
+typedef struct lyndon_group {
+    uint16_t start;
+    uint16_t length;
+    uint16_t power;
+} lyndon_group;
+
+/* The answer to an edit. Beside a refusal the five numbers are 0. */
+typedef struct lyndon_edit_answer {
+    uint8_t refusal;
+    size_t kept;   /* how many leading factors of the stored pattern are the edited one's too; each of them ends at or before `from` */
+    size_t resume; /* a position in the stored pattern, at or after `to`: from there on the factors are those of the stored ending */
+    size_t groups; /* the number of middle groups written: the factors between the kept and the resumed ones, grouped among themselves */
+    size_t length; /* the length of the longest Lyndon words in the edited pattern, 0 where it is empty */
+    size_t starts; /* the number of their starts written */
+} lyndon_edit_answer;
+
+/* The answer to an edit: the bytes from `from` up to `to` are taken out and the block is put in. Both tables are the stored pattern's;
+ * the starts of the groups and of the longest words are places in the edited one. Refusals 1, 2, 3, 4, 5, 8.
+ * Row `middle`: a record for each group; (binary digits of `from`) + block_len + 1 are always enough, 0 having no digit, and so are
+ * LYNDON_MAX_MIDDLE. Row `starts`: an entry for each start; as many as the edited pattern has bytes are always enough. */
+lyndon_edit_answer lyndon_edit(const uint8_t *pattern, size_t pattern_len, const uint16_t *lyndon_array, size_t lyndon_array_len,
+                               const uint16_t *last_factors, size_t last_factors_len, size_t from, size_t to,
+                               const uint8_t *block, size_t block_len, lyndon_group *middle, size_t middle_len,
+                               uint16_t *starts, size_t starts_len);
+
+/* The same with the middle groups as numbers. Row `middle`: 3 entries a group, so that 3 * LYNDON_MAX_MIDDLE = 810 are always enough. */
+lyndon_edit_answer lyndon_edit_numbers(const uint8_t *pattern, size_t pattern_len, const uint16_t *lyndon_array, size_t lyndon_array_len,
+                                       const uint16_t *last_factors, size_t last_factors_len, size_t from, size_t to,
+                                       const uint8_t *block, size_t block_len, uint16_t *middle, size_t middle_len,
+                                       uint16_t *starts, size_t starts_len);
 
 #ifdef __cplusplus
 }

@@ -49,6 +49,7 @@ fn writing(t: &mut Tally, w: &[u8], f: &Facts) {
     let first = f.starts.first().map_or(0, |&s| usize::from(s));
     let word = if holds.none() { &w[first..first + f.length] } else { &[] };
     rows(t, "longest_word", w, Want::new(Holds::default(), [word.len(), 0], word), engine::longest_word);
+    rows(t, "write_listing", w, Want::new(holds, [f.listing.len(), 0], &f.listing), engine::write_listing);
     rows(t, "tree", w, Want::new(tree_holds(n, f.lyndon), [f.nodes.len() / 2, 0], &f.nodes), engine::tree);
 }
 

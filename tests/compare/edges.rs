@@ -13,6 +13,11 @@ fn row() -> Vec<u16> {
     vec![0; 3 * 4100]
 }
 
+/// A buffer for every listing.
+fn text() -> Vec<u8> {
+    vec![0; 77_849]
+}
+
 fn says(t: &mut Tally, what: &str, n: usize, got: u8, want: u8) {
     t.equal(&got, &want, || format!("{what}, pattern of {n} bytes"));
 }
@@ -41,6 +46,7 @@ fn pattern(t: &mut Tally, w: &[u8], f: &Facts, want: u8) {
     says(t, "lyndon_array", n, engine::array(w, &mut row()).0, want);
     says(t, "last_factors", n, engine::last_factors(w, &mut row()).0, want);
     says(t, "longest_words", n, engine::longest_words(w, &mut row()).0, want);
+    says(t, "write_listing", n, engine::write_listing(w, &mut text()).0, want);
     says(t, "is_lyndon", n, engine::is_lyndon(w).0, want);
     says(t, "least_rotation", n, engine::least_rotation(w).0, want);
     says(t, "factor_prefix", n, engine::factor_prefix(w, &f.last, 3, &mut row()).0, want);
@@ -151,6 +157,7 @@ fn rows(t: &mut Tally) {
     say("last_factors", 13, &|row| engine::last_factors(w, row).0);
     say("longest_words", 1, &|row| engine::longest_words(w, row).0);
     say("longest_word", 4, &|row| engine::longest_word(w, &mut vec![0; row.len()]).0);
+    say("write_listing", 69, &|row| engine::write_listing(w, &mut vec![0; row.len()]).0);
     say("tree", 18, &|row| engine::tree(b"aabab", row).0);
     say("factor_prefix", 6, &|row| engine::factor_prefix(w, &f.last, 9, row).0);
     say("factor_suffix", 3, &|row| engine::factor_suffix(w, &f.array, 9, row).0);

@@ -43,6 +43,7 @@ type Part = unsafe extern "C" fn(*const u8, usize, *const u16, usize, *mut u16, 
 #[rustfmt::skip]
 type Edit<T> = unsafe extern "C" fn(*const u8, usize, *const u16, usize, *const u16, usize, usize, usize, *const u8, usize, *mut T, usize, *mut u16, usize) -> EditAnswer;
 
+// A slice goes as two parameters. Declared as `&[u16]`, `last` of an edit would go astray: Rust passes a pair that no longer fits the registers in memory.
 #[rustfmt::skip]
 unsafe extern "C" {
     fn lyndon_factor(pattern: *const u8, pattern_len: usize, groups: *mut u16, groups_len: usize, count: *mut usize) -> u8;
@@ -58,6 +59,7 @@ unsafe extern "C" {
                             groups: *mut u16, groups_len: usize, end: usize, count: *mut usize) -> u8;
     fn lyndon_factor_suffix(pattern: *const u8, pattern_len: usize, table: *const u16, table_len: usize,
                             groups: *mut u16, groups_len: usize, start: usize, count: *mut usize) -> u8;
+    fn lyndon_write_listing(pattern: *const u8, pattern_len: usize, text: *mut u8, text_len: usize, count: *mut usize) -> u8;
     fn lyndon_edit(pattern: *const u8, pattern_len: usize, array: *const u16, array_len: usize, last: *const u16, last_len: usize,
                    from: usize, to: usize, block: *const u8, block_len: usize,
                    middle: *mut Group, middle_len: usize, starts: *mut u16, starts_len: usize) -> EditAnswer;
@@ -109,6 +111,10 @@ pub fn least_rotation(pattern: &[u8]) -> Answer {
     let mut start = UNSET;
     let refusal = unsafe { lyndon_least_rotation(pattern.as_ptr(), pattern.len(), &mut start) };
     (refusal, [start, 0])
+}
+
+pub fn write_listing(pattern: &[u8], text: &mut [u8]) -> Answer {
+    fill(lyndon_write_listing, pattern, text)
 }
 
 pub fn tree(word: &[u8], nodes: &mut [u16]) -> Answer {

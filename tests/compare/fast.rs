@@ -108,6 +108,22 @@ fn tree(w: &[u8], start: usize, nodes: &mut Vec<u16>) {
     }
 }
 
+/// The same lines, each put together byte by byte.
+fn listing(w: &[u8]) -> Vec<u8> {
+    let mut text = b"start,length,power,word\r\n".to_vec();
+    duval(w, |start, length, power| {
+        for number in [start, length, power] {
+            text.extend(number.to_string().bytes());
+            text.push(b',');
+        }
+        for byte in &w[start..start + length] {
+            text.extend([byte >> 4, byte & 15].map(|digit| b"0123456789ABCDEF"[usize::from(digit)]));
+        }
+        text.extend([13, 10]);
+    });
+    text
+}
+
 fn facts(w: &[u8]) -> Facts {
     let groups = groups(w);
     let array = reach(w);
@@ -118,7 +134,7 @@ fn facts(w: &[u8]) -> Facts {
     if lyndon && w.len() <= TREE_LIMIT {
         tree(w, 0, &mut nodes);
     }
-    Facts { groups, array, last, length, starts, mark: mark(w), lyndon, nodes }
+    Facts { groups, array, last, length, starts, mark: mark(w), lyndon, nodes, listing: listing(w) }
 }
 
 /// The end of each factor.

@@ -128,6 +128,17 @@ fn tree(w: &[u8], start: usize, nodes: &mut Vec<u16>) {
     }
 }
 
+/// A line of names, then one for each group: start, length, power, and the factor's bytes in hexadecimal.
+fn listing(w: &[u8]) -> Vec<u8> {
+    let mut text = String::from("start,length,power,word\r\n");
+    for Group { start, length, power } in groups_of(w) {
+        let word = &w[usize::from(start)..usize::from(start + length)];
+        let digits: String = word.iter().map(|byte| format!("{byte:02X}")).collect();
+        text += &format!("{start},{length},{power},{digits}\r\n");
+    }
+    text.into_bytes()
+}
+
 fn facts(w: &[u8]) -> Facts {
     let (length, starts) = longest(w);
     let lyndon = is_lyndon(w);
@@ -135,7 +146,8 @@ fn facts(w: &[u8]) -> Facts {
     if lyndon && w.len() <= TREE_LIMIT {
         tree(w, 0, &mut nodes);
     }
-    Facts { groups: groups_of(w), array: reach(w), last: prefix_table(w), length, starts, mark: mark(w), lyndon, nodes }
+    let (groups, listing) = (groups_of(w), listing(w));
+    Facts { groups, array: reach(w), last: prefix_table(w), length, starts, mark: mark(w), lyndon, nodes, listing }
 }
 
 /// The largest c for which the stored pattern's first c factors end at or before `from` and are the edited one's first c.

@@ -4,9 +4,11 @@ use crate::edits;
 use crate::engine::{self, Answer, Given};
 use crate::families::{A, B};
 use crate::fast::FAST;
+use crate::lent::Entry;
 use crate::right::{Edit, Facts, Holds, edit_holds, flat, part_holds, pattern_holds, tree_holds};
 use crate::tally::{Random, Tally};
 use std::collections::HashSet;
+use std::fmt::Debug;
 
 const PLENTY: usize = 3 * 4100;
 
@@ -14,7 +16,11 @@ const PLENTY: usize = 3 * 4100;
 type Met = HashSet<Holds>;
 
 /// A call with one row; its set of refusals is noted.
-fn meet(t: &mut Tally, met: &mut Met, name: &str, w: &[u8], row: usize, want: &Want<u16>, call: impl Fn(&[u8], &mut [u16]) -> Answer) {
+fn meet<T, C>(t: &mut Tally, met: &mut Met, name: &str, w: &[u8], row: usize, want: &Want<T>, call: C)
+where
+    T: Entry + Debug,
+    C: Fn(&[u8], &mut [T]) -> Answer,
+{
     met.insert(want.holds.and(8, row < want.result.len()));
     calls::one(t, name, w, row, want, call);
 }
@@ -28,6 +34,15 @@ fn every_pair(t: &mut Tally, name: &str, met: &Met, numbers: &[u8]) {
     }
 }
 
+/// A call with rows too short, exact and longer; 1 and 8 must have been met together.
+fn plain_rows<T: Entry + Debug>(t: &mut Tally, name: &str, w: &[u8], want: &Want<T>, call: impl Fn(&[u8], &mut [T]) -> Answer) {
+    let (mut met, need) = (Met::new(), want.result.len());
+    for row in [0, need - 1, need, need.max(PLENTY)] {
+        meet(t, &mut met, name, w, row, want, &call);
+    }
+    every_pair(t, name, &met, &[1, 8]);
+}
+
 fn plain(t: &mut Tally, w: &[u8], f: &Facts) {
     let n = w.len();
     let holds = pattern_holds(n);
@@ -39,12 +54,10 @@ fn plain(t: &mut Tally, w: &[u8], f: &Facts) {
         ("longest_words", [f.length, f.starts.len()], &f.starts, engine::longest_words),
     ];
     for (name, numbers, result, call) in all {
-        let mut met = Met::new();
-        for row in [0, result.len() - 1, result.len(), PLENTY] {
-            meet(t, &mut met, name, w, row, &Want { holds, numbers, result }, call);
-        }
-        every_pair(t, name, &met, &[1, 8]);
+        plain_rows(t, name, w, &Want { holds, numbers, result }, call);
     }
+    let want = Want { holds, numbers: [f.listing.len(), 0], result: &f.listing[..] };
+    plain_rows(t, "write_listing", w, &want, engine::write_listing);
 }
 
 /// Where there is no tree a row with no entry counts as too short.

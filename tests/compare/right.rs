@@ -17,6 +17,7 @@ pub struct Facts {
     pub lyndon: bool,
     /// Two numbers a node; empty where there is no tree or the word is too long for one.
     pub nodes: Vec<u16>,
+    pub listing: Vec<u8>,
 }
 
 /// The answer to an accepted edit.

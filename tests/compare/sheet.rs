@@ -65,7 +65,9 @@ fn tables(t: &mut Tally) {
     t.equal(&nodes, &vec![0, 5, 0, 3, 0, 1, 1, 2, 1, 1, 2, 1, 3, 2, 3, 1, 4, 1], || "P14".into());
     let groups = (NAIVE.groups)(S);
     let group = |start, length, power| Group { start, length, power };
-    t.equal(&groups, &vec![group(0, 3, 1), group(3, 3, 2), group(9, 4, 1)], || "the listing of S".into());
+    t.equal(&groups, &vec![group(0, 3, 1), group(3, 3, 2), group(9, 4, 1)], || "the groups of S".into());
+    let listing = b"start,length,power,word\r\n0,3,1,616362\r\n3,3,2,616263\r\n9,4,1,61626163\r\n";
+    t.equal(&(NAIVE.facts)(S).listing, &listing.to_vec(), || "the listing of S".into());
     for w in [&[0, 1, 1, 0, 2, 3, 1, 2, 2][..], b"ababbababbabb"] {
         let f = short::facts(t, w);
         calls::word(t, &NAIVE, w, &f, &(0..=w.len() + 1).collect::<Vec<_>>());

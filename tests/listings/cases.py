@@ -81,21 +81,24 @@ def edited(s, b, csv):
 
 
 def run(program, stdin, files):
+    """What the program prints; where `stdin` is None it runs without a standard input, so that the first file it opens is number 0."""
     with tempfile.TemporaryDirectory() as folder:
         for name, content in files.items():
             with open(os.path.join(folder, name), "wb") as f:
                 f.write(content)
-        return subprocess.run([program], input=stdin, cwd=folder, stdout=subprocess.PIPE, timeout=60).stdout
+        command = [program] if stdin is not None else ["sh", "-c", 'exec "$0" <&-', program]
+        return subprocess.run(command, input=stdin, cwd=folder, stdout=subprocess.PIPE, timeout=60).stdout
 
 
 def listing_cases():
     rnd = random.Random(5)
     full = bytes(rnd.randrange(256) for _ in range(4096))
+    pairs = [bytes([x, y]) for x in range(255, -1, -1) for y in range(255, x, -1)]
     yield "the worked example", SHEET, listing(SHEET)
     yield "the worked example, literally", SHEET, HEADER + b"0,3,1,616362\r\n3,3,2,616263\r\n9,4,1,61626163\r\n"
     for name, s in [("empty", b""), ("4,096 bytes", full), ("4,097 bytes", full + b"a"), ("65,549 bytes", bytes(65549)),
                     ("high bytes", bytes([0x7F, 0x80, 0x80, 0x7F, 255, 0, 255])), ("many groups", bytes(255 - i // 16 for i in range(4080))),
-                    ("one group", b"a" * 4096), ("a line feed counts", b"ab\n")]:
+                    ("2,048 groups of two bytes", b"".join(pairs[:2048])), ("one group", b"a" * 4096), ("a line feed counts", b"ab\n")]:
         yield name, s, listing(s)
     for i in range(100):
         s = bytes(rnd.choice(b"ab\x80") for _ in range(rnd.randrange(30)))
@@ -109,14 +112,16 @@ def edited_cases():
     yield "equal words across the seams", {"pattern.bin": b"aa", "block.bin": b"a", "edit.csv": EDIT + b"1,1\r\n"}, seam
     for name, s, b, row in [("P5", SHEET, b"b", b"5,6"), ("P6", SHEET, b"a", b"11,11"), ("P13, leading zeros", b"aba", b"c", b"00003,3"),
                             ("emptied", SHEET, b"", b"0,13"), ("full size", full, full[:256], b"1000,1256"), ("4", full, b"xx", b"5,5"),
-                            ("3", SHEET, bytes(257), b"0,1"), ("2 before 3", SHEET, bytes(257), b"5,4"), ("past the end", SHEET, b"", b"0,14")]:
+                            ("3", SHEET, bytes(257), b"0,1"), ("2 before 3", SHEET, bytes(257), b"5,4"), ("past the end", SHEET, b"", b"0,14"), ("4,096 starts", b"a" * 4096, b"", b"0,0"),
+                            ("256 middle groups", b"", bytes(range(255, -1, -1)), b"0,0")]:
         csv = EDIT + row + b"\r\n"
         yield name, {"pattern.bin": s, "block.bin": b, "edit.csv": csv}, edited(s, b, csv)
     yield "1 before 2", {"pattern.bin": full + b"a", "block.bin": b"", "edit.csv": b""}, refused(1)
     for i, csv in enumerate([EDIT + b"5,6\r", EDIT + b"5,6\r\n\r\n", EDIT + b"5,6\r\n7,8\r\n", EDIT + b"000005,6\r\n", EDIT + b",6\r\n", EDIT + b"5,\r\n",
                              EDIT + b"5, 6\r\n", EDIT + b"+5,6\r\n", EDIT + b"-5,6\r\n", EDIT + b'"5",6\r\n', b"\xef\xbb\xbf" + EDIT + b"5,6\r\n",
                              b"from,to\n5,6\n", b"from,tO\r\n5,6\r\n", b"5,6\r\n", EDIT, b"", EDIT + b"5;6\r\n", EDIT + b"5,6\r\nx", EDIT + b"5,6,7\r\n",
-                             EDIT + b"12345,12345\r\n", EDIT + b"12345,12345\r\nx"]):
+                             EDIT + b"12345,12345\r\n", EDIT + b"12345,12345\r\nx",
+                             EDIT + b"00005,00006\r\nx"]):
         yield "malformed %d" % i, {"pattern.bin": SHEET, "block.bin": b"b", "edit.csv": csv}, refused(2)
     yield "no pattern, no block", {"edit.csv": EDIT + b"0,0\r\n"}, HEADER
     yield "no file", {}, refused(2)
@@ -133,6 +138,8 @@ def main():
     passed = failed = 0
     runs = [("listing", name, (s, {}), want) for name, s, want in listing_cases()]
     runs += [("edited", name, (b"", files), want) for name, files, want in edited_cases()]
+    name, files, want = next(case for case in edited_cases() if case[0] == "P5")
+    runs += [("edited", name + ", no standard input", (None, files), want)]
     for program, name, given, want in runs:
         got = run(os.path.join(folder, program), *given)
         if got == want:

@@ -1,43 +1,7 @@
-//! The two exported calls: how Rust declares them, and whether one answers as it should, with every entry of both rows as it should be.
-//! Each row is lent out of a longer one, whose rest must stay.
+//! Whether one of the two exported calls answers as it should, with every entry of both rows as it should be.
+//! Each row is lent out of a longer one, whose rest must stay. How Rust declares and calls them is in ../compare/engine.rs.
+use crate::engine::{self, EditAnswer, Given, Group};
 use crate::naive::{self, Answer};
-
-#[repr(C)]
-#[derive(Clone, Copy, Debug, PartialEq)]
-struct Group {
-    start: u16,
-    length: u16,
-    power: u16,
-}
-
-#[repr(C)]
-#[derive(Clone, Copy, Debug, PartialEq)]
-struct EditAnswer {
-    refusal: u8,
-    kept: usize,
-    resume: usize,
-    groups: usize,
-    length: usize,
-    starts: usize,
-}
-
-// A slice goes as two parameters. Declared as `&[u16]`, `last` would go astray: Rust passes a pair that no longer fits the registers in memory.
-macro_rules! exported {
-    ($($name:ident: $entry:ty),*) => {
-        unsafe extern "C" {
-            $(fn $name(
-                pattern: *const u8, pattern_len: usize,
-                array: *const u16, array_len: usize,
-                last: *const u16, last_len: usize,
-                from: usize, to: usize,
-                block: *const u8, block_len: usize,
-                middle: *mut $entry, middle_len: usize,
-                starts: *mut u16, starts_len: usize,
-            ) -> EditAnswer;)*
-        }
-    };
-}
-exported!(lyndon_edit: Group, lyndon_edit_numbers: u16);
 
 #[derive(Clone)]
 pub struct Edit {
@@ -64,18 +28,10 @@ impl Edit {
     pub fn answer(&self) -> Answer {
         naive::answer(&self.pattern, self.from, self.to, &self.block)
     }
-}
 
-macro_rules! call {
-    ($name:ident, $e:expr, $middle:expr, $starts:expr) => {{
-        let (e, m, s) = ($e, $middle, $starts);
-        unsafe {
-            $name(
-                e.pattern.as_ptr(), e.pattern.len(), e.array.as_ptr(), e.array.len(), e.last.as_ptr(), e.last.len(),
-                e.from, e.to, e.block.as_ptr(), e.block.len(), m.as_mut_ptr(), m.len(), s.as_mut_ptr(), s.len(),
-            )
-        }
-    }};
+    fn given(&self) -> Given<'_> {
+        Given { pattern: &self.pattern, array: &self.array, last: &self.last, from: self.from, to: self.to, block: &self.block }
+    }
 }
 
 pub type Outcome = Result<Answer, u8>;
@@ -120,7 +76,7 @@ pub fn records_hold(e: &Edit, room: usize, places: usize, want: &Outcome) -> boo
     let row: Vec<Group> = canaries(room).iter().map(|&c| group([c, c + 1, c + 2])).collect();
     let mut middle = row.clone();
     let mut starts = canaries(places);
-    let got = call!(lyndon_edit, e, &mut middle[..room], &mut starts[..places]);
+    let got = engine::edit(&e.given(), &mut middle[..room], &mut starts[..places]);
     let groups = want.as_ref().ok().map(|a| a.middle.iter().map(|&g| group(g)).collect());
     got == flat(want) && middle == after(&row, groups) && starts == starts_after(&canaries(places), want)
 }
@@ -129,7 +85,7 @@ pub fn records_hold(e: &Edit, room: usize, places: usize, want: &Outcome) -> boo
 pub fn numbers_hold(e: &Edit, room: usize, places: usize, want: &Outcome) -> bool {
     let mut middle = canaries(room);
     let mut starts = canaries(places);
-    let got = call!(lyndon_edit_numbers, e, &mut middle[..room], &mut starts[..places]);
+    let got = engine::edit_numbers(&e.given(), &mut middle[..room], &mut starts[..places]);
     let groups = want.as_ref().ok().map(|a| a.middle.concat());
     got == flat(want) && middle == after(&canaries(room), groups) && starts == starts_after(&canaries(places), want)
 }

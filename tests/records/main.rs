@@ -1,6 +1,9 @@
 //! Tries `lyndon_edit` and `lyndon_edit_numbers` as a Rust program calls them (`calls.rs`), and compares with the trainer's sheet
 //! or with the definitions computed naively (`naive.rs`).
 mod calls;
+#[allow(dead_code)]
+#[path = "../compare/engine.rs"]
+mod engine;
 mod naive;
 use calls::{both_hold, numbers_hold, records_hold, Edit};
 use naive::Answer;

@@ -1,0 +1,57 @@
+//! The inputs of the benchmark: the ten families of tests/compare/families.rs at 4,096 bytes, and the same with both tables, for the edits.
+//! What is timed on them is main.rs's concern.
+use crate::engine::Given;
+use crate::families::{A, B, families};
+use crate::plain;
+use crate::tally::Random;
+
+pub const SIZE: usize = 4096;
+const SEED: u64 = 20_261_115;
+/// Words of a random family: a single one would be learnt by heart, as a processor does after some hundred passes over the same 4,096 bytes.
+const DRAWS: usize = 64;
+/// What an edit puts in, a word that no family but the random ones has; it takes as many bytes out.
+const BLOCK: &[u8] = &[B, A, A, A, B, A, B, B];
+
+pub const START: usize = 0;
+pub const MIDDLE: usize = SIZE / 2;
+pub const END: usize = SIZE - BLOCK.len();
+
+/// A name and its words.
+pub type Family<I> = (&'static str, Vec<I>);
+
+/// A family without chance has one word.
+pub fn words() -> Vec<Family<Vec<u8>>> {
+    let mut random = Random::new(SEED);
+    let draws: Vec<_> = (0..DRAWS).map(|_| families(SIZE, &mut random)).collect();
+    let family = |k: usize| {
+        let mut words: Vec<_> = draws.iter().map(|draw| draw[k].1.clone()).collect();
+        words.dedup();
+        (draws[0][k].0, words)
+    };
+    (0..draws[0].len()).map(family).collect()
+}
+
+/// A pattern with both tables.
+pub struct Stored {
+    pattern: Vec<u8>,
+    array: Vec<u16>,
+    last: Vec<u16>,
+}
+
+impl Stored {
+    fn new(pattern: Vec<u8>) -> Stored {
+        let (mut array, mut last) = (vec![0; pattern.len()], vec![0; pattern.len()]);
+        plain::array(&pattern, &mut array);
+        plain::last_factors(&pattern, &mut last);
+        Stored { pattern, array, last }
+    }
+
+    /// The edit at a place.
+    pub fn at(&self, from: usize) -> Given<'_> {
+        Given { pattern: &self.pattern, array: &self.array, last: &self.last, from, to: from + BLOCK.len(), block: BLOCK }
+    }
+}
+
+pub fn stored(families: Vec<Family<Vec<u8>>>) -> Vec<Family<Stored>> {
+    families.into_iter().map(|(name, words)| (name, words.into_iter().map(Stored::new).collect())).collect()
+}

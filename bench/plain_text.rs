@@ -1,0 +1,83 @@
+//! The listing of a pattern as one writes it in safe Rust into a lent buffer, without formatting macros.
+//! `listing` measures before it writes, as the engine does; `listing_unmeasured` writes straight away and panics where the buffer is short.
+#![forbid(unsafe_code)]
+use crate::plain::groups;
+
+const HEADER: &[u8] = b"start,length,power,word\r\n";
+
+/// The two digits of each byte.
+const PAIRS: [[u8; 2]; 256] = {
+    let (digits, mut pairs, mut b) = (b"0123456789ABCDEF", [[0; 2]; 256], 0);
+    while b < 256 {
+        pairs[b] = [digits[b / 16], digits[b % 16]];
+        b += 1;
+    }
+    pairs
+};
+
+fn digits(n: usize) -> usize {
+    n.checked_ilog10().map_or(1, |log| log as usize + 1)
+}
+
+/// The front of a buffer that was written, up to a place.
+struct Writer<'a> {
+    text: &'a mut [u8],
+    at: usize,
+}
+
+impl Writer<'_> {
+    fn next(&mut self, size: usize) -> &mut [u8] {
+        let from = self.at;
+        self.at += size;
+        &mut self.text[from..self.at]
+    }
+
+    fn bytes(&mut self, bytes: &[u8]) {
+        self.next(bytes.len()).copy_from_slice(bytes);
+    }
+
+    /// A number in decimal and a comma.
+    fn field(&mut self, mut n: usize) {
+        for digit in self.next(digits(n)).iter_mut().rev() {
+            *digit = b'0' + (n % 10) as u8;
+            n /= 10;
+        }
+        self.bytes(b",");
+    }
+
+    fn hexadecimal(&mut self, word: &[u8]) {
+        let (pairs, _) = self.next(2 * word.len()).as_chunks_mut();
+        for (pair, &b) in pairs.iter_mut().zip(word) {
+            *pair = PAIRS[usize::from(b)];
+        }
+    }
+}
+
+/// Writes the listing and answers its length.
+#[inline(never)]
+pub fn listing_unmeasured(s: &[u8], text: &mut [u8]) -> usize {
+    let mut out = Writer { text, at: 0 };
+    out.bytes(HEADER);
+    for (start, length, power) in groups(s, 0) {
+        out.field(start);
+        out.field(length);
+        out.field(power);
+        out.hexadecimal(&s[start..start + length]);
+        out.bytes(b"\r\n");
+    }
+    out.at
+}
+
+fn measure(s: &[u8]) -> usize {
+    let line = |(start, length, power)| digits(start) + digits(length) + digits(power) + 2 * length + 5;
+    HEADER.len() + groups(s, 0).map(line).sum::<usize>()
+}
+
+/// The same, where the buffer is long enough; else it answers 0 and writes nothing.
+#[inline(never)]
+pub fn listing(s: &[u8], text: &mut [u8]) -> usize {
+    if text.len() < measure(s) {
+        return 0;
+    }
+    listing_unmeasured(s, text)
+}

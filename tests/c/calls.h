@@ -1,0 +1,74 @@
+/* Every function of lyndon.h made once, and whether its answer, its rows and what it only reads are as they should be.
+ * What they should be is left to the tests. */
+#ifndef CALLS_H
+#define CALLS_H
+
+#include "check.h"
+
+#include "lyndon.h"
+
+/* The functions that write one row, by one list of arguments. */
+typedef enum { FACTOR, ARRAY, LAST_FACTORS, LONGEST_WORDS, LONGEST_WORD, TREE, LISTING, FILLINGS } filling;
+
+/* The functions that ask for a table and a position. */
+typedef enum { PREFIX, SUFFIX } side;
+
+extern const char *const filling_name[FILLINGS];
+extern const char *const side_name[2];
+
+/* The refusal's number, and the numbers set; the second is 0 where a function sets one. */
+typedef struct {
+    uint8_t refusal;
+    size_t number[2];
+} told;
+
+/* The answer of a refused call. */
+#define REFUSED(n) ((told){ (n), { 0, 0 } })
+
+/* A result: its entries, and their number. */
+typedef struct {
+    const void *entries;
+    size_t n;
+} result;
+
+#define NOTHING ((result){ NULL, 0 })
+
+/* A table as it is lent. */
+typedef struct {
+    const uint16_t *at;
+    size_t n;
+} table;
+
+/* What an edit is given. */
+typedef struct {
+    bytes pattern;
+    table array;
+    table last;
+    size_t from;
+    size_t to;
+    bytes block;
+} given;
+
+/* What an edit is to answer; the middle groups are three numbers each for both functions. */
+typedef struct {
+    lyndon_edit_answer told;
+    const uint16_t *middle;
+    const uint16_t *starts;
+} edited;
+
+/* A function that writes one row of `room` entries. */
+bool fills(filling call, bytes w, size_t room, told want, result r);
+
+/* The same with an exact row, longer ones and, where there is a result, rows too short, which are refused by 8. */
+bool fills_any_row(filling call, bytes w, told want, result r);
+
+bool tells_lyndon(bytes w, uint8_t refusal, bool yes);
+bool tells_rotation(bytes w, uint8_t refusal, size_t start);
+
+bool takes_part(side s, bytes w, table t, size_t position, size_t room, told want, result r);
+
+/* lyndon_edit with rows of these lengths in entries, and lyndon_edit_numbers. */
+bool edits_records(const given *g, size_t middle_room, size_t starts_room, const edited *want);
+bool edits_numbers(const given *g, size_t middle_room, size_t starts_room, const edited *want);
+
+#endif

@@ -1,0 +1,114 @@
+/* The worked example of the README, and two more strings, with every answer written out.
+ * How an answer and its rows are compared is left to calls.c; other strings are left to sweep.c. */
+#include "tests.h"
+
+#include <stdio.h>
+
+#define PATTERN LITERAL("acbabcabcabac")
+#define LISTING_TEXT "start,length,power,word\r\n0,3,1,616362\r\n3,3,2,616263\r\n9,4,1,61626163\r\n"
+
+static const uint16_t groups[] = { 0, 3, 1, 3, 3, 2, 9, 4, 1 };
+static const uint16_t array[] = { 3, 1, 1, 3, 2, 1, 3, 2, 1, 4, 1, 2, 1 };
+static const uint16_t last[] = { 1, 2, 3, 1, 2, 3, 1, 2, 3, 1, 2, 1, 4 };
+static const uint16_t longest[] = { 9 };
+
+/* The tree of aabab: start and length of each node. */
+static const uint16_t nodes[] = { 0, 5, 0, 3, 0, 1, 1, 2, 1, 1, 2, 1, 3, 2, 3, 1, 4, 1 };
+
+static void one_row(void) {
+    struct {
+        filling call;
+        bytes w;
+        told want;
+        result r;
+    } cases[] = {
+        { FACTOR, PATTERN, { 0, { 3, 0 } }, { groups, 9 } },
+        { ARRAY, PATTERN, { 0, { 13, 0 } }, { array, 13 } },
+        { LAST_FACTORS, PATTERN, { 0, { 13, 0 } }, { last, 13 } },
+        { LONGEST_WORDS, PATTERN, { 0, { 4, 1 } }, { longest, 1 } },
+        { LONGEST_WORD, PATTERN, { 0, { 4, 0 } }, { "abac", 4 } },
+        { TREE, LITERAL("aabab"), { 0, { 9, 0 } }, { nodes, 18 } },
+        { LISTING, PATTERN, { 0, { sizeof LISTING_TEXT - 1, 0 } }, { LISTING_TEXT, sizeof LISTING_TEXT - 1 } },
+        { FACTOR, LITERAL(""), { 0, { 0, 0 } }, NOTHING },
+        { ARRAY, LITERAL(""), { 0, { 0, 0 } }, NOTHING },
+        { LAST_FACTORS, LITERAL(""), { 0, { 0, 0 } }, NOTHING },
+        { LONGEST_WORDS, LITERAL(""), { 0, { 0, 0 } }, NOTHING },
+        { LONGEST_WORD, LITERAL(""), { 0, { 0, 0 } }, NOTHING },
+        { LISTING, LITERAL(""), { 0, { 25, 0 } }, { "start,length,power,word\r\n", 25 } },
+        { LISTING, LITERAL("\xFF\x0A"), { 0, { 45, 0 } }, { "start,length,power,word\r\n0,1,1,FF\r\n1,1,1,0A\r\n", 45 } },
+    };
+    for (size_t k = 0; k < sizeof cases / sizeof *cases; k++) {
+        bool good = fills_any_row(cases[k].call, cases[k].w, cases[k].want, cases[k].r);
+        check(good, "%s, case %zu", filling_name[cases[k].call], k);
+    }
+}
+
+static void no_row(void) {
+    check(tells_lyndon(PATTERN, 0, false), "lyndon_is_lyndon of the pattern");
+    check(tells_lyndon(LITERAL("abac"), 0, true), "lyndon_is_lyndon of abac");
+    check(tells_lyndon(LITERAL("\x7F\x80"), 0, true), "lyndon_is_lyndon of 7F 80");
+    check(tells_lyndon(LITERAL("\x80\x7F"), 0, false), "lyndon_is_lyndon of 80 7F");
+    check(tells_lyndon(LITERAL(""), 0, false), "lyndon_is_lyndon of the empty string");
+    check(tells_rotation(PATTERN, 0, 9), "lyndon_least_rotation of the pattern");
+    check(tells_rotation(LITERAL("baab"), 0, 1), "lyndon_least_rotation of baab");
+    check(tells_rotation(LITERAL(""), 0, 0), "lyndon_least_rotation of the empty pattern");
+}
+
+/* Exact, longer, short by one, empty. */
+static void one_part(side s, table t, size_t position, size_t count, const uint16_t *group) {
+    bytes w = PATTERN;
+    told want = { 0, { count, 0 } };
+    result r = { group, 3 * count };
+    bool good = takes_part(s, w, t, position, r.n, want, r) && takes_part(s, w, t, position, r.n + 40, want, r);
+    if (count > 0) {
+        good = good && takes_part(s, w, t, position, r.n - 1, REFUSED(8), NOTHING);
+        good = good && takes_part(s, w, t, position, 0, REFUSED(8), NOTHING);
+    }
+    check(good, "%s at %zu", side_name[s], position);
+}
+
+static void parts(void) {
+    static const uint16_t suffix_at_4[] = { 4, 2, 1, 6, 3, 1, 9, 4, 1 };
+    table lasts = { last, 13 }, arrays = { array, 13 };
+    one_part(PREFIX, lasts, 0, 0, groups);
+    one_part(PREFIX, lasts, 9, 2, groups);
+    one_part(PREFIX, lasts, 13, 3, groups);
+    one_part(SUFFIX, arrays, 0, 3, groups);
+    one_part(SUFFIX, arrays, 4, 3, suffix_at_4);
+    one_part(SUFFIX, arrays, 9, 1, groups + 6);
+    one_part(SUFFIX, arrays, 13, 0, groups);
+}
+
+static void one_edit(size_t from, size_t to, bytes block, edited want) {
+    given g = { PATTERN, { array, 13 }, { last, 13 }, from, to, block };
+    edited short_of = { .told = { .refusal = 8 } };
+    size_t m = want.told.groups, s = want.told.starts;
+    check(edits_records(&g, m, s, &want), "lyndon_edit from %zu", from);
+    check(edits_records(&g, LYNDON_MAX_MIDDLE, 300, &want), "lyndon_edit from %zu, long rows", from);
+    check(edits_numbers(&g, 3 * m, s, &want), "lyndon_edit_numbers from %zu", from);
+    check(edits_numbers(&g, 3 * LYNDON_MAX_MIDDLE, 300, &want), "lyndon_edit_numbers from %zu, long rows", from);
+    check(edits_records(&g, m - 1, s, &short_of), "lyndon_edit from %zu, a record too few", from);
+    check(edits_records(&g, m, s - 1, &short_of), "lyndon_edit from %zu, a start too few", from);
+    check(edits_numbers(&g, 3 * m - 1, s, &short_of), "lyndon_edit_numbers from %zu, a number too few", from);
+    check(edits_numbers(&g, 3 * m, s - 1, &short_of), "lyndon_edit_numbers from %zu, a start too few", from);
+}
+
+static void edits(void) {
+    static const uint16_t one[] = { 3, 6, 1 }, two[] = { 9, 2, 1, 11, 3, 1 }, three[] = { 3 }, many[] = { 0, 3, 6, 11 };
+    lyndon_edit_answer replaced = { .refusal = 0, .kept = 1, .resume = 9, .groups = 1, .length = 6, .starts = 1 };
+    lyndon_edit_answer put_in = { .refusal = 0, .kept = 3, .resume = 13, .groups = 2, .length = 3, .starts = 4 };
+    one_edit(5, 6, LITERAL("b"), (edited){ replaced, one, three });
+    one_edit(11, 11, LITERAL("a"), (edited){ put_in, two, many });
+    given all_gone = { PATTERN, { array, 13 }, { last, 13 }, 0, 13, LITERAL("") };
+    edited nothing = { .told = { .resume = 13 } };
+    check(edits_records(&all_gone, 0, 0, &nothing), "lyndon_edit that empties the pattern");
+    check(edits_numbers(&all_gone, 0, 0, &nothing), "lyndon_edit_numbers that empties the pattern");
+}
+
+void test_example(void) {
+    part("the worked example, rows exact, longer and too short");
+    one_row();
+    no_row();
+    parts();
+    edits();
+}

@@ -1,0 +1,16 @@
+/* Calls every function of lyndon.h from C: worked examples, each refusal of each function, rows that must keep their entries, and every
+ * short string. The two arguments are cases that the script has counted. What is right at length is left to tests/compare. */
+#include "tests.h"
+
+#include <stdlib.h>
+
+int main(int argc, char **argv) {
+    if (argc == 3) counted(strtoul(argv[1], NULL, 10), strtoul(argv[2], NULL, 10));
+    test_header();
+    test_example();
+    test_refusals();
+    test_limits();
+    test_words();
+    test_edits();
+    return finish();
+}

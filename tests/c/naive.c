@@ -1,0 +1,160 @@
+/* The definitions for short strings, as naive.h says: each is computed as it reads. Limits and refusals are left to the tests. */
+#include "naive.h"
+
+#include <stdio.h>
+#include <string.h>
+
+static bytes slice(bytes w, size_t from, size_t to) {
+    return (bytes){ w.at + from, to - from };
+}
+
+/* The smaller has the smaller byte at the first difference; a proper prefix is smaller. */
+static bool smaller(bytes a, bytes b) {
+    for (size_t k = 0; k < a.n && k < b.n; k++) {
+        if (a.at[k] != b.at[k]) return a.at[k] < b.at[k];
+    }
+    return a.n < b.n;
+}
+
+static bool same(bytes a, bytes b) {
+    return !smaller(a, b) && !smaller(b, a);
+}
+
+/* Nonempty, and smaller than each of its nonempty proper suffixes. */
+static bool is_lyndon(bytes w) {
+    for (size_t k = 1; k < w.n; k++) {
+        if (!smaller(w, slice(w, k, w.n))) return false;
+    }
+    return w.n > 0;
+}
+
+/* The length of the longest Lyndon word that starts at i. */
+static size_t longest_at(bytes w, size_t i) {
+    size_t end = w.n;
+    while (!is_lyndon(slice(w, i, end))) end--;
+    return end - i;
+}
+
+/* The bounds of the factors, from 0 to the length; answers the number of factors. */
+static size_t factors(bytes w, size_t *bound) {
+    size_t count = 0;
+    bound[0] = 0;
+    while (bound[count] < w.n) {
+        bound[count + 1] = bound[count] + longest_at(w, bound[count]);
+        count++;
+    }
+    return count;
+}
+
+/* The groups of the factors between these bounds; `place` is that of the string's first byte. */
+static size_t grouped(bytes w, const size_t *bound, size_t factor_count, size_t place, uint16_t *group) {
+    size_t count = 0;
+    for (size_t k = 0; k < factor_count; k++) {
+        bytes factor = slice(w, bound[k], bound[k + 1]);
+        if (k > 0 && same(slice(w, bound[k - 1], bound[k]), factor)) {
+            group[3 * count - 1]++;
+            continue;
+        }
+        group[3 * count] = (uint16_t)(place + bound[k]);
+        group[3 * count + 1] = (uint16_t)factor.n;
+        group[3 * count + 2] = 1;
+        count++;
+    }
+    return count;
+}
+
+size_t naive_groups(bytes w, size_t place, uint16_t *group) {
+    size_t bound[SHORT + 1];
+    size_t count = factors(w, bound);
+    return grouped(w, bound, count, place, group);
+}
+
+static void longest_words(bytes w, size_t *length, size_t *starts, uint16_t *start) {
+    *starts = 0;
+    for (*length = w.n; *length > 0; (*length)--) {
+        for (size_t i = 0; i + *length <= w.n; i++) {
+            if (is_lyndon(slice(w, i, i + *length))) start[(*starts)++] = (uint16_t)i;
+        }
+        if (*starts > 0) return;
+    }
+}
+
+/* The smallest start of a rotation that no other is smaller than. */
+static size_t rotation(bytes w) {
+    uint8_t twice[2 * SHORT];
+    memcpy(twice, w.at, w.n);
+    memcpy(twice + w.n, w.at, w.n);
+    size_t best = 0;
+    for (size_t k = 1; k < w.n; k++) {
+        if (smaller((bytes){ twice + k, w.n }, (bytes){ twice + best, w.n })) best = k;
+    }
+    return best;
+}
+
+/* Parent, all of u, all of v, where v is the longest proper suffix that is a Lyndon word; answers the number of nodes. */
+static size_t tree(bytes w, size_t place, uint16_t *node) {
+    node[0] = (uint16_t)place;
+    node[1] = (uint16_t)w.n;
+    if (w.n == 1) return 1;
+    size_t cut = 1;
+    while (!is_lyndon(slice(w, cut, w.n))) cut++;
+    size_t left = tree(slice(w, 0, cut), place, node + 2);
+    return 1 + left + tree(slice(w, cut, w.n), place + cut, node + 2 + 2 * left);
+}
+
+facts naive_facts(bytes w) {
+    facts f = { .groups = 0 };
+    size_t bound[SHORT + 1];
+    f.groups = naive_groups(w, 0, f.group);
+    for (size_t i = 0; i < w.n; i++) {
+        f.array[i] = (uint16_t)longest_at(w, i);
+        size_t count = factors(slice(w, 0, i + 1), bound);
+        f.last[i] = (uint16_t)(bound[count] - bound[count - 1]);
+    }
+    longest_words(w, &f.length, &f.starts, f.start);
+    f.rotation = rotation(w);
+    f.lyndon = is_lyndon(w);
+    if (f.lyndon) f.nodes = tree(w, 0, f.node);
+    return f;
+}
+
+size_t naive_listing(bytes w, const facts *f, char *text) {
+    char *at = text + sprintf(text, "start,length,power,word\r\n");
+    for (size_t k = 0; k < f->groups; k++) {
+        const uint16_t *group = f->group + 3 * k;
+        at += sprintf(at, "%u,%u,%u,", group[0], group[1], group[2]);
+        for (size_t i = 0; i < group[1]; i++) at += sprintf(at, "%02X", w.at[group[0] + i]);
+        at += sprintf(at, "\r\n");
+    }
+    return (size_t)(at - text);
+}
+
+/* The largest c for which the first c factors of the stored pattern end at or before `from` and are the edited one's first c. */
+static size_t kept_of(bytes w, const size_t *old, size_t olds, bytes edited, const size_t *new, size_t news, size_t from) {
+    size_t c = 0;
+    while (c < olds && c < news && old[c + 1] <= from) {
+        if (!same(slice(w, old[c], old[c + 1]), slice(edited, new[c], new[c + 1]))) break;
+        c++;
+    }
+    return c;
+}
+
+naive_edited naive_edit(bytes w, size_t from, size_t to, bytes block) {
+    naive_edited e = { .told = { .refusal = 0 } };
+    uint8_t content[SHORT];
+    memcpy(content, w.at, from);
+    memcpy(content + from, block.at, block.n);
+    memcpy(content + from + block.n, w.at + to, w.n - to);
+    bytes edited = { content, from + block.n + w.n - to };
+    size_t old[SHORT + 1], new[SHORT + 1];
+    size_t olds = factors(w, old), news = factors(edited, new);
+    size_t kept = kept_of(w, old, olds, edited, new, news, from);
+    /* the first bound at or behind the block's end; the end of the edited pattern is one */
+    size_t until = kept;
+    while (new[until] < from + block.n) until++;
+    e.told.kept = kept;
+    e.told.resume = new[until] - (from + block.n) + to;
+    e.told.groups = grouped(edited, new + kept, until - kept, 0, e.middle);
+    longest_words(edited, &e.told.length, &e.told.starts, e.start);
+    return e;
+}

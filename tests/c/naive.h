@@ -1,0 +1,45 @@
+/* The definitions for short strings, tried out one by one: slow, and right at sight.
+ * Nothing here knows how the engine works; results of up to 64 bytes fit. */
+#ifndef NAIVE_H
+#define NAIVE_H
+
+#include "check.h"
+
+#include "lyndon.h"
+
+/* The longest string that these functions take. */
+#define SHORT 64
+
+/* What there is to say of a pattern. */
+typedef struct {
+    size_t groups; /* number of groups; three numbers each */
+    uint16_t group[3 * SHORT];
+    uint16_t array[SHORT];
+    uint16_t last[SHORT];
+    size_t length; /* of the longest Lyndon words, and their starts */
+    size_t starts;
+    uint16_t start[SHORT];
+    size_t rotation;
+    bool lyndon;
+    size_t nodes; /* number of nodes, 0 where there is no tree; two numbers each */
+    uint16_t node[4 * SHORT];
+} facts;
+
+facts naive_facts(bytes w);
+
+/* Writes the groups of the string, whose first byte stands at `place`, and answers their number. */
+size_t naive_groups(bytes w, size_t place, uint16_t *group);
+
+/* Writes the listing of a pattern with these groups, and answers its length; a line of it has at most 2 * SHORT + 20 bytes. */
+size_t naive_listing(bytes w, const facts *f, char *text);
+
+/* The answer to an edit that nothing refuses, and its rows. */
+typedef struct {
+    lyndon_edit_answer told;
+    uint16_t middle[3 * SHORT];
+    uint16_t start[SHORT];
+} naive_edited;
+
+naive_edited naive_edit(bytes w, size_t from, size_t to, bytes block);
+
+#endif

@@ -1,0 +1,145 @@
+/* Each refusal that each function can give, alone and with later ones, its number written out. A refused call sets its numbers to 0 and
+ * leaves every row as it was, which calls.c looks at. Where the limits lie is left to limits.c. */
+#include "tests.h"
+
+#include <string.h>
+
+#define LONG 4097
+#define PLENTY 13000 /* entries: more than any result has */
+
+static uint8_t letters[LONG + 255];
+
+/* Both tables of a string of equal letters. */
+static uint16_t ones[LONG];
+
+static bytes equal_letters(size_t n) {
+    return (bytes){ letters, n };
+}
+
+static void prepare(void) {
+    memset(letters, 'a', sizeof letters);
+    for (size_t k = 0; k < LONG; k++) ones[k] = 1;
+}
+
+static void no_table(void) {
+    static const filling calls[] = { FACTOR, ARRAY, LAST_FACTORS, LONGEST_WORDS, LISTING };
+    static const size_t need[] = { 3, 2, 2, 2, 35 }; /* entries that the results for aa have */
+    for (size_t k = 0; k < 5; k++) {
+        const char *name = filling_name[calls[k]];
+        check(fills(calls[k], equal_letters(LONG), PLENTY, REFUSED(1), NOTHING), "%s, 1", name);
+        check(fills(calls[k], equal_letters(LONG), 0, REFUSED(1), NOTHING), "%s, 1 before 8", name);
+        check(fills(calls[k], equal_letters(2), need[k] - 1, REFUSED(8), NOTHING), "%s, 8", name);
+    }
+    check(fills(LONGEST_WORD, equal_letters(LONG), PLENTY, REFUSED(0), NOTHING), "lyndon_longest_word, too long: empty, no number");
+    check(fills(LONGEST_WORD, equal_letters(LONG), 0, REFUSED(0), NOTHING), "lyndon_longest_word, too long, no row");
+    check(fills(LONGEST_WORD, equal_letters(2), 0, REFUSED(8), NOTHING), "lyndon_longest_word, 8");
+    check(tells_lyndon(equal_letters(LONG), 1, false), "lyndon_is_lyndon, 1");
+    check(tells_rotation(equal_letters(LONG), 1, 0), "lyndon_least_rotation, 1");
+}
+
+static void tree(void) {
+    const struct {
+        bytes w;
+        size_t room;
+        uint8_t number;
+    } cases[] = {
+        { { letters, 257 }, PLENTY, 6 }, { { letters, 257 }, 0, 6 },      { { letters, LONG }, PLENTY, 6 },
+        { { letters, 2 }, PLENTY, 7 },   { { letters, 2 }, 0, 7 },        { { letters, 256 }, PLENTY, 7 },
+        { { letters, 0 }, PLENTY, 7 },   { { letters, 0 }, 0, 7 },        { { letters, 1 }, 1, 8 },
+        { { letters, 1 }, 0, 8 },        { LITERAL("ab"), 5, 8 },         { LITERAL("aabab"), 17, 8 },
+    };
+    for (size_t k = 0; k < sizeof cases / sizeof *cases; k++) {
+        bool good = fills(TREE, cases[k].w, cases[k].room, REFUSED(cases[k].number), NOTHING);
+        check(good, "lyndon_tree, %u, case %zu", cases[k].number, k);
+    }
+}
+
+/* A pattern of equal letters has the same tables from both sides. */
+static void parts(void) {
+    uint16_t wrong[10];
+    memcpy(wrong, ones, sizeof wrong);
+    wrong[9] = 2;
+    const struct {
+        size_t n;
+        table t;
+        size_t position, room;
+        uint8_t number;
+    } cases[] = {
+        { LONG, { ones, LONG }, 5, PLENTY, 1 }, { LONG, { ones, 0 }, LONG + 1, 0, 1 },
+        { 10, { ones, 10 }, 11, PLENTY, 2 },    { 10, { wrong, 9 }, 11, 0, 2 },      { 10, { ones, 10 }, SIZE_MAX, PLENTY, 2 },
+        { 10, { ones, 9 }, 5, PLENTY, 5 },      { 10, { wrong, 10 }, 5, PLENTY, 5 }, { 10, { wrong, 10 }, 5, 0, 5 },
+        { 10, { ones, 0 }, 0, PLENTY, 5 },      { 10, { ones, 10 }, 5, 2, 8 },       { 10, { ones, 10 }, 5, 0, 8 },
+    };
+    for (size_t k = 0; k < sizeof cases / sizeof *cases; k++) {
+        for (side s = PREFIX; s <= SUFFIX; s++) {
+            told want = REFUSED(cases[k].number);
+            bool good = takes_part(s, equal_letters(cases[k].n), cases[k].t, cases[k].position, cases[k].room, want, NOTHING);
+            check(good, "%s, %u, case %zu", side_name[s], cases[k].number, k);
+        }
+    }
+}
+
+/* The numbers of an edit: lengths of pattern and tables, the stretch, the block's length, and of rows in groups and starts. */
+typedef struct {
+    size_t n, array, last, from, to, block, middle, starts;
+    uint8_t number;
+} edit_case;
+
+static const edit_case edits[] = {
+    /* each alone */
+    { LONG, LONG, LONG, 0, 9, 0, 300, PLENTY, 1 },
+    { 10, 10, 10, 6, 5, 0, 300, PLENTY, 2 },
+    { 10, 10, 10, 0, 11, 0, 300, PLENTY, 2 },
+    { 10, 10, 10, 11, 11, 0, 300, PLENTY, 2 },
+    { 10, 10, 10, SIZE_MAX, SIZE_MAX, 0, 300, PLENTY, 2 },
+    { 10, 10, 10, SIZE_MAX, 0, 0, 300, PLENTY, 2 },
+    { 10, 10, 10, 0, 10, 257, 300, PLENTY, 3 },
+    { 4096, 4096, 4096, 0, 0, 1, 300, PLENTY, 4 },
+    { 10, 9, 10, 0, 0, 1, 300, PLENTY, 5 },
+    { 10, 10, 9, 0, 0, 1, 300, PLENTY, 5 },
+    { 10, 0, 10, 0, 0, 1, 300, PLENTY, 5 },
+    { 10, 10, 10, 0, 0, 1, 0, PLENTY, 8 },
+    { 10, 10, 10, 0, 0, 1, 300, 10, 8 },
+    /* with all later ones */
+    { LONG, 0, 0, SIZE_MAX, 0, 257, 0, 0, 1 },
+    { 4096, 0, 0, 2, 1, 257, 0, 0, 2 },
+    { 4096, 0, 0, 1, 1, 257, 0, 0, 3 },
+    { 4096, 0, 0, 1, 1, 256, 0, 0, 4 },
+    { 4096, 0, 0, 0, 256, 256, 0, 0, 5 },
+    { 4096, 4096, 4096, 0, 256, 256, 0, 0, 8 },
+};
+
+static void refused_edits(void) {
+    for (size_t k = 0; k < sizeof edits / sizeof *edits; k++) {
+        const edit_case *c = &edits[k];
+        given g = { equal_letters(c->n), { ones, c->array }, { ones, c->last }, c->from, c->to, { letters, c->block } };
+        edited want = { .told = { .refusal = c->number } };
+        check(edits_records(&g, c->middle, c->starts, &want), "lyndon_edit, %u, case %zu", c->number, k);
+        check(edits_numbers(&g, 3 * c->middle, c->starts, &want), "lyndon_edit_numbers, %u, case %zu", c->number, k);
+    }
+}
+
+/* A single wrong entry of either table refuses an edit. */
+static void wrong_entries(void) {
+    edited want = { .told = { .refusal = 5 } };
+    for (size_t k = 0; k < 10; k++) {
+        uint16_t wrong[10];
+        memcpy(wrong, ones, sizeof wrong);
+        wrong[k]++;
+        given first = { equal_letters(10), { wrong, 10 }, { ones, 10 }, 4, 5, { letters, 2 } };
+        given second = { equal_letters(10), { ones, 10 }, { wrong, 10 }, 4, 5, { letters, 2 } };
+        check(edits_records(&first, 300, PLENTY, &want) && edits_records(&second, 300, PLENTY, &want), "lyndon_edit, entry %zu", k);
+        check(edits_numbers(&first, 900, PLENTY, &want) && edits_numbers(&second, 900, PLENTY, &want),
+              "lyndon_edit_numbers, entry %zu", k);
+    }
+}
+
+void test_refusals(void) {
+    prepare();
+    part("each refusal of each function, alone and with later ones");
+    no_table();
+    tree();
+    parts();
+    refused_edits();
+    wrong_entries();
+}

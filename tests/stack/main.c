@@ -1,0 +1,153 @@
+/* Measures the stack that each function of lyndon.h touches, over strings of eleven families, prints a table, and holds each to a bound.
+ * What the functions answer is left to the other tests; the two programs are left to programs.py. */
+#include "families.h"
+#include "painted.h"
+
+#include "lyndon.h"
+
+#include <stdbool.h>
+#include <stdio.h>
+#include <stdlib.h>
+
+#define N LYNDON_MAX_PATTERN
+#define SMALL 64
+
+/* What a run is given and where its results go; static, so that only the call is on the stack. */
+static struct {
+    uint8_t pattern[N], block[LYNDON_MAX_BLOCK], text[LYNDON_MAX_LISTING];
+    uint16_t array[N], last[N], row[3 * N], starts[N];
+    lyndon_group middle[LYNDON_MAX_MIDDLE];
+    size_t n, block_n, from, to, size, count;
+    bool yes;
+    uint8_t refusal;
+    lyndon_edit_answer answer;
+} g;
+
+static void run_factor(void) {
+    g.refusal = lyndon_factor(g.pattern, g.n, g.row, 3 * N, &g.count);
+}
+
+static void run_array(void) {
+    g.refusal = lyndon_array(g.pattern, g.n, g.row, N, &g.count);
+}
+
+static void run_last_factors(void) {
+    g.refusal = lyndon_last_factors(g.pattern, g.n, g.row, N, &g.count);
+}
+
+static void run_longest_words(void) {
+    g.refusal = lyndon_longest_words(g.pattern, g.n, g.row, N, &g.size, &g.count);
+}
+
+static void run_longest_word(void) {
+    g.refusal = lyndon_longest_word(g.pattern, g.n, g.text, N, &g.size);
+}
+
+static void run_is_lyndon(void) {
+    g.refusal = lyndon_is_lyndon(g.pattern, g.n, &g.yes);
+}
+
+static void run_least_rotation(void) {
+    g.refusal = lyndon_least_rotation(g.pattern, g.n, &g.count);
+}
+
+static void run_tree(void) {
+    g.refusal = lyndon_tree(g.pattern, g.n, g.row, 3 * N, &g.count);
+    if (g.refusal == LYNDON_NOT_LYNDON) g.refusal = 0;
+}
+
+static void run_prefix(void) {
+    g.refusal = lyndon_factor_prefix(g.pattern, g.n, g.last, g.n, g.row, 3 * N, g.to, &g.count);
+}
+
+static void run_suffix(void) {
+    g.refusal = lyndon_factor_suffix(g.pattern, g.n, g.array, g.n, g.row, 3 * N, g.from, &g.count);
+}
+
+static void run_listing(void) {
+    g.refusal = lyndon_write_listing(g.pattern, g.n, g.text, LYNDON_MAX_LISTING, &g.count);
+}
+
+static void run_edit(void) {
+    g.answer = lyndon_edit(g.pattern, g.n, g.array, g.n, g.last, g.n, g.from, g.to, g.block, g.block_n, g.middle, LYNDON_MAX_MIDDLE,
+                           g.starts, N);
+    g.refusal = g.answer.refusal;
+}
+
+static void run_edit_numbers(void) {
+    g.answer = lyndon_edit_numbers(g.pattern, g.n, g.array, g.n, g.last, g.n, g.from, g.to, g.block, g.block_n, g.row, 3 * N, g.starts, N);
+    g.refusal = g.answer.refusal;
+}
+
+/* A function: the longest string, the most bytes that it may touch, and the most that the longest string may add to those of a short one.
+ * Only the tree calls itself: at most once for each letter, with up to 128 bytes. */
+typedef struct {
+    const char *name;
+    void (*run)(void);
+    size_t longest, most, growth;
+} row;
+
+static const row rows[] = {
+    { "lyndon_factor", run_factor, N, 1024, 0 },
+    { "lyndon_array", run_array, N, 1024, 0 },
+    { "lyndon_last_factors", run_last_factors, N, 1024, 0 },
+    { "lyndon_longest_words", run_longest_words, N, 1024, 0 },
+    { "lyndon_longest_word", run_longest_word, N, 1024, 0 },
+    { "lyndon_is_lyndon", run_is_lyndon, N, 1024, 0 },
+    { "lyndon_least_rotation", run_least_rotation, N, 16384, 0 },
+    { "lyndon_tree", run_tree, LYNDON_MAX_TREE, 65536, 24576 },
+    { "lyndon_factor_prefix", run_prefix, N, 1024, 0 },
+    { "lyndon_factor_suffix", run_suffix, N, 1024, 0 },
+    { "lyndon_write_listing", run_listing, N, 1024, 0 },
+    { "lyndon_edit", run_edit, N, 16384, 0 },
+    { "lyndon_edit_numbers", run_edit_numbers, N, 16384, 0 },
+};
+
+/* Stretch and block: the pattern's middle, its front, its end and all of it; none, one and 256 bytes, as many of them as fit. */
+static void stretch(size_t which) {
+    size_t n = g.n, quarter = n / 4;
+    const size_t from[] = { n / 2, 0, n - quarter, 0, n }, to[] = { n / 2 + quarter, quarter, n, n, n };
+    const size_t block[] = { LYNDON_MAX_BLOCK, 0, 1, LYNDON_MAX_BLOCK, 0 };
+    g.from = from[which];
+    g.to = to[which];
+    g.block_n = block[which];
+}
+
+/* A call that was to be accepted counts as one without a bound. */
+static size_t refused(const row *r, size_t n, size_t which) {
+    printf("WRONG: %s refused %zu bytes of family %zu by %u\n", r->name, n, which, g.refusal);
+    return SIZE_MAX;
+}
+
+/* The deepest of all families and stretches for strings of n bytes. */
+static size_t deepest(const row *r, size_t n) {
+    size_t most = 0;
+    for (size_t which = 0; which < FAMILIES; which++) {
+        family(which, g.pattern, n);
+        g.n = n;
+        if (lyndon_array(g.pattern, n, g.array, N, &g.count) != 0 || lyndon_last_factors(g.pattern, n, g.last, N, &g.count) != 0) abort();
+        for (size_t s = 0; s < 5; s++) {
+            stretch(s);
+            family((which + s) % FAMILIES, g.block, LYNDON_MAX_BLOCK);
+            size_t used = touched(r->run);
+            if (g.refusal != 0) return refused(r, n, which);
+            if (used > most) most = used;
+        }
+    }
+    return most;
+}
+
+int main(void) {
+    size_t passed = 0, failed = 0;
+    printf("%-24s %8s %8s %8s\n", "stack in bytes", "n = 64", "longest", "bound");
+    for (size_t k = 0; k < sizeof rows / sizeof *rows; k++) {
+        const row *r = &rows[k];
+        size_t small = deepest(r, SMALL), large = deepest(r, r->longest);
+        bool bounded = large <= r->most && small <= r->most && large > 0, level = large <= r->growth || large - r->growth <= small;
+        printf("%-24s %8zu %8zu %8zu%s%s\n", r->name, small, large, r->most, bounded ? "" : " TOO MUCH", level ? "" : " GROWS");
+        passed += bounded + level;
+        failed += !bounded + !level;
+    }
+    printf("%zu passed, %zu failed\n", passed, failed);
+    return failed > 0;
+}
