@@ -1,5 +1,6 @@
 // Prints the edited listing of the pattern, the block and the edit in three files of the working folder, or the refusal line. A file that
-// can't be opened or read is empty; of each file one byte is read past the longest that is accepted.
+// can't be opened or read is empty; of each file one byte is read past the longest that is accepted. What is printed is made and proved in
+// `write_output`; what is read and written is the operating system's.
 use edit::Answer;
 use edit_file::Parsed;
 use edit_file::parse;
@@ -8,9 +9,14 @@ use libc::STDOUT_FILENO;
 use lyndon::last_factors;
 use lyndon::lyndon_array;
 use lyndon_edit::edit_numbers;
-use refusal_text::refusal_line;
 use refusals::MAX_PATTERN;
+use text::write_refusal;
+ghost use Prim.Native.Nat.{_≤_};
+ghost use mathlib.Core.Path.{_≡_};
+ghost use lib.ListN.{length};
 ghost use Rattle.io.specs.Counts.{Counts};
+ghost use Rattle.text.specs.Written.{Puts};
+ghost use Rattle.edited.specs.Output.{refusalIn, editOutput, Prints};
 
 const PATTERN: [u8; 11] = *b"pattern.bin";
 
@@ -31,31 +37,21 @@ fn read_file(path: &[u8], bytes: &mut [u8]) -> usize
     n
 }
 
-fn print_refusal(number: u8) {
-    let line = refusal_line(number);
-    let bytes = line.bytes;
-    let size = line.size;
-    io::write_all(STDOUT_FILENO, &bytes[..size]);
-}
-
-fn refusal_of(answer: Answer) -> u8 {
+// The number of an answer that is none.
+fn refusal_of(answer: Answer) -> u8
+    ensures { λ r. ⌜ r ≡ refusalIn answer ⌝ }
+{
     match answer {
         Answer::Done(_) => 0,
         Answer::Refused(number) => number,
     }
 }
 
-fn print_edited(pattern: &[u8], block: &[u8], csv: &[u8]) {
-    if MAX_PATTERN < pattern.len() {
-        print_refusal(1);
-        return;
-    }
-    let Parsed::Edit(stretch) = parse(csv) else {
-        print_refusal(2);
-        return;
-    };
-    let from = stretch.from;
-    let to = stretch.to;
+// Writes all that is printed for an edit to the front of a buffer that holds every listing.
+fn write_answer(pattern: &[u8], from: usize, to: usize, block: &[u8], text: &mut [u8]) -> usize
+    requires { ⌜ (length (now pattern) ≤ 4096) × (77849 ≤ length (now text)) ⌝ }
+    ensures { λ r. ⌜ Puts (editOutput (now (pattern .entry)) from to (now (block .entry))) 0 (now (text .entry)) (now (text .exit)) r ⌝ }
+{
     let mut array = [0u16; 4096];
     lyndon_array(pattern, &mut array);
     let mut last = [0u16; 4096];
@@ -73,12 +69,25 @@ fn print_edited(pattern: &[u8], block: &[u8], csv: &[u8]) {
         &mut starts,
     );
     let Answer::Done(counts) = answer else {
-        print_refusal(refusal_of(answer));
-        return;
+        return write_refusal(refusal_of(answer) as usize, text);
     };
-    let mut text = [0u8; 77849];
-    let size = write_edited(pattern, &array, from, to, block, counts, &middle, &mut text);
-    io::write_all(STDOUT_FILENO, &text[..size]);
+    write_edited(pattern, &array, from, to, block, counts, &middle, text)
+}
+
+// Writes all that is printed for the contents of the three files to the front of such a buffer.
+fn write_output(pattern: &[u8], block: &[u8], csv: &[u8], text: &mut [u8]) -> usize
+    requires { ⌜ 77849 ≤ length (now text) ⌝ }
+    ensures { λ r. ⌜ Prints (now (pattern .entry)) (now (block .entry)) (now (csv .entry)) (now (text .entry)) (now (text .exit)) r ⌝ }
+{
+    if MAX_PATTERN < pattern.len() {
+        return write_refusal(1, text);
+    }
+    let Parsed::Edit(stretch) = parse(csv) else {
+        return write_refusal(2, text);
+    };
+    let from = stretch.from;
+    let to = stretch.to;
+    write_answer(pattern, from, to, block, text)
 }
 
 fn main() {
@@ -88,5 +97,7 @@ fn main() {
     let b = read_file(&BLOCK, &mut block);
     let mut csv = [0u8; 23];
     let c = read_file(&EDIT, &mut csv);
-    print_edited(&pattern[..n], &block[..b], &csv[..c]);
+    let mut text = [0u8; 77849];
+    let count = write_output(&pattern[..n], &block[..b], &csv[..c], &mut text);
+    io::write_all(STDOUT_FILENO, &text[..count]);
 }

@@ -1,21 +1,80 @@
--- The bytes that the call counts lie within the buffer.
-use mathlib.Core.List.{List}
-use mathlib.Core.Path.{_≡_, sym, ap}
-use Prim.Native.Nat.{ℕ, zero, suc, _≤_}
+-- What the call on listings leaves, in a buffer that holds every listing, is all that is printed.
+use mathlib.Core.List.{List, [], _∷_}
+use mathlib.Core.Logic.{_⊎_, inl, inr}
+use mathlib.Core.Path.{_≡_, refl, sym, ap, _∙_}
+use Prim.Native.Nat.{ℕ, zero, suc, _+_, _≤_, _<_}
 use native.Mathlib.Omega.{arith}
-use lib.ListN.{length, take, drop, length-append}
+use lib.ListN.{length, take}
 use lib.Seq.{length-take-le}
-use Rattle.lyndon.specs.Calls.{Fills}
 use Rattle.lyndon.specs.declared.Filled.{Filled}
-use Rattle.refusals.specs.Refusals.{Refusal, firstOf, unlessRefused, rowAfter}
+use Rattle.lyndon_text.specs.Calls.{ListingWritten}
+use Rattle.refusals.specs.Refusals.{Refusal, firstOf, unlessRefused, rowAfter, maxPattern, patternTooLong, tooShort}
+use Rattle.refusals.proofs.First.{First, first-is, too-long, not-long, not-short}
+use Rattle.text.proofs.Lengths.{listing-room}
+use Rattle.text.proofs.Lines.{refusal-room}
+use Rattle.text.proofs.Puts.{puts-length}
+use Rattle.text.specs.Listing.{listingText, refusalText, printed}
+use Rattle.text.specs.Written.{Room, Puts}
+use Rattle.words.proofs.Bounded.{le-or-lt}
+use Rattle.listing.specs.Output.{output}
 
-fits : (k count : ℕ) (out row row′ : List ℕ) → count ≡ unlessRefused k (length out) → row′ ≡ rowAfter k out row → count ≤ length row′
-fits zero count out row row′ e w = omega (arith, e, ap length w, length-append out (drop (length out) row))
-fits (suc k) count out row row′ e w = omega (arith, e)
+-- a row after a call of this number
+row-refused : {k : ℕ} (n : ℕ) (out row : List ℕ) → k ≡ n → (k ≡ 0 → ⊥) → rowAfter n out row ≡ row
+row-refused zero out row e h = absurd (h e)
+row-refused (suc n) out row e h = refl
 
-module _ {rs : List Refusal} {out row row′ : List ℕ} {r : Filled} (w : Fills rs out (length out) row row′ r) where
-  pub printed-within : r .count ≤ length row′
-  printed-within = fits (firstOf rs) (r .count) out row row′ (w .count) (w .leaves)
+printed-refused : {k : ℕ} (n : ℕ) (text : List ℕ) → k ≡ n → (k ≡ 0 → ⊥) → printed n text ≡ refusalText k
+printed-refused zero text e h = absurd (h e)
+printed-refused (suc n) text e h = ap refusalText (sym e)
 
-  pub printed-long : r .count ≡ length (take (r .count) row′)
-  printed-long = sym (length-take-le (r .count) row′ printed-within)
+module _ (s d : List ℕ) {d′ : List ℕ} {r : Filled} (w : ListingWritten s d d′ r) (room : 77849 ≤ length d) where
+  abbrev first : ℕ
+  first = firstOf (patternTooLong s ∷ tooShort (length (listingText s)) (length d) ∷ [])
+
+  -- the buffer holds the listing, so that 8 does not hold
+  number : first ≡ firstOf (patternTooLong s ∷ [])
+  number = go (le-or-lt (length s) maxPattern)
+    where
+      go : (length s ≤ maxPattern) ⊎ (maxPattern < length s) → first ≡ firstOf (patternTooLong s ∷ [])
+      go (inl h) =
+          first-is (not-long s h (not-short (length (listingText s)) (length d) (omega (arith, listing-room s h)) First.none))
+          ∙ sym (first-is (not-long s h First.none))
+      go (inr h) = first-is (too-long s {rs = tooShort (length (listingText s)) (length d) ∷ []} h) ∙ sym (first-is (too-long s {rs = []} h))
+
+  pub same-buffer : (r .refusal ≡ 0 → ⊥) → d′ ≡ d
+  same-buffer h = w .leaves ∙ row-refused first (listingText s) d (w .refusal) h
+
+  small : r .refusal ≤ 1
+  small = go (le-or-lt (length s) maxPattern)
+    where
+      go : (length s ≤ maxPattern) ⊎ (maxPattern < length s) → r .refusal ≤ 1
+      go (inl h) = omega (arith, w .refusal, number, first-is (not-long s h First.none))
+      go (inr h) = omega (arith, w .refusal, number, first-is (too-long s {rs = []} h))
+
+  pub line-room : (r .refusal ≡ 0 → ⊥) → Room (refusalText (r .refusal)) 0 d′
+  line-room h = omega (arith, refusal-room (r .refusal) (omega (arith, small)), ap length (same-buffer h))
+
+  pub refused-output : (r .refusal ≡ 0 → ⊥) → {d″ : List ℕ} {n : ℕ} → Puts (refusalText (r .refusal)) 0 d′ d″ n → Puts (output s) 0 d d″ n
+  unfolding output
+  refused-output h p = rw (sym number, printed-refused first (listingText s) (w .refusal) h, ← (same-buffer h)) p
+
+  pub listed-output : r .refusal ≡ 0 → Puts (output s) 0 d d′ (r .count)
+  unfolding output
+  listed-output e =
+      let z : first ≡ 0 = sym (w .refusal) ∙ e in
+      record {
+        next = w .count ∙ rw (z, sym number ∙ z) (omega arith);
+        leaves = w .leaves ∙ rw (z, sym number ∙ z);
+      }
+
+output-room : (s : List ℕ) → length (output s) ≤ 77849
+unfolding output
+output-room s = go (le-or-lt (length s) maxPattern)
+  where
+    go : (length s ≤ maxPattern) ⊎ (maxPattern < length s) → length (printed (firstOf (patternTooLong s ∷ [])) (listingText s)) ≤ 77849
+    go (inl h) = rw (first-is (not-long s h First.none)) (listing-room s h)
+    go (inr h) = rw (first-is (too-long s {rs = []} h)) (omega (arith, refusal-room 1 (omega arith)))
+
+-- what is printed lies within the buffer
+pub output-within : (s : List ℕ) {d d′ : List ℕ} {n : ℕ} → Puts (output s) 0 d d′ n → 77849 ≤ length d → n ≤ length d′
+output-within s p h = omega (arith, p .next, output-room s, puts-length p (omega (arith, output-room s)))

@@ -1,25 +1,30 @@
 // Prints the factor listing of the pattern on standard input, or the refusal line. It reads no more than one byte over the longest pattern.
+// What is printed is made and proved in `write_output`; what is read and written is the operating system's.
 use libc::STDIN_FILENO;
 use libc::STDOUT_FILENO;
 use lyndon_text::write_listing;
-use refusal_text::refusal_line;
+use text::write_refusal;
+ghost use Prim.Native.Nat.{_≤_};
+ghost use lib.ListN.{length};
+ghost use Rattle.text.specs.Written.{Puts};
+ghost use Rattle.listing.specs.Output.{output};
 
-fn print_refusal(number: u8) {
-    let line = refusal_line(number);
-    let bytes = line.bytes;
-    let size = line.size;
-    io::write_all(STDOUT_FILENO, &bytes[..size]);
+// Writes all that is printed for a pattern to the front of a buffer that holds every listing.
+fn write_output(pattern: &[u8], text: &mut [u8]) -> usize
+    requires { ⌜ 77849 ≤ length (now text) ⌝ }
+    ensures { λ r. ⌜ Puts (output (now (pattern .entry))) 0 (now (text .entry)) (now (text .exit)) r ⌝ }
+{
+    let answer = write_listing(pattern, text);
+    if answer.refusal != 0 {
+        return write_refusal(answer.refusal as usize, text);
+    }
+    answer.count
 }
 
 fn main() {
     let mut pattern = [0u8; 4097];
     let n = io::read_full(STDIN_FILENO, &mut pattern);
     let mut text = [0u8; 77849];
-    let answer = write_listing(&pattern[..n], &mut text);
-    if answer.refusal != 0 {
-        print_refusal(answer.refusal);
-        return;
-    }
-    let count = answer.count;
+    let count = write_output(&pattern[..n], &mut text);
     io::write_all(STDOUT_FILENO, &text[..count]);
 }

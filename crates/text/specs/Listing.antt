@@ -1,6 +1,6 @@
 -- The two listings and the refusal line, as CSV by RFC 4180: each line is closed by carriage return and line feed.
 use mathlib.Core.List.{List, [], _∷_, _++_}
-use Prim.Native.Nat.{ℕ}
+use Prim.Native.Nat.{ℕ, zero, suc}
 use lib.ListN.{take, drop}
 use Rattle.words.specs.Factors.{factors, Group, groupsFrom}
 use Rattle.words.specs.Tables.{groups}
@@ -47,3 +47,8 @@ editedText s from to b =
 -- All that is printed where a refusal holds.
 unfoldable pub refusalText : ℕ → List ℕ
 refusalText number = codes "refused," ++ decimal number ++ lineEnd
+
+-- What a program prints: the text where the number is 0, otherwise the refusal line.
+abbrev pub printed : ℕ → List ℕ → List ℕ
+printed zero text = text
+printed (suc number) text = refusalText (suc number)

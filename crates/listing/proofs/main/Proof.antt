@@ -1,5 +1,7 @@
 -- `listing::main` is safe and ends.
-use Rattle.listing.proofs.Printed.{printed-within, printed-long}
+use mathlib.Core.Path.{sym}
+use lib.Seq.{length-take-le}
+use Rattle.listing.proofs.Printed.{output-within}
 use borrow.Author.Needs.{needs}
 use Rattle.listing.proofs.main.Statement.{statement}
 use Rattle.listing.proofs.main.Tie as tie
@@ -7,7 +9,7 @@ use Rattle.listing.proofs.main.Reads as reads
 use Rattle.listing.proofs.main.Lts as lts
 use Rattle.io.proofs.read_full.Reads as read-full-reads
 use Rattle.io.proofs.write_all.Reads as write-all-reads
-use Rattle.lyndon_text.proofs.write_listing.Reads as write-listing-reads
+use Rattle.listing.proofs.write_output.Reads as write-output-reads
 
 slice-aggregate-read-full : tie.Need-slice-aggregate-read-full
 slice-aggregate-read-full c = search needs
@@ -18,32 +20,26 @@ read-full-requires c κs = search needs
 array-share-prefix-pattern : tie.Need-array-share-prefix-pattern
 array-share-prefix-pattern c = search needs
 
-slice-aggregate-write-listing : tie.Need-slice-aggregate-write-listing
-slice-aggregate-write-listing c = search needs
+slice-aggregate-write-output : tie.Need-slice-aggregate-write-output
+slice-aggregate-write-output c = search needs
 
-slice-aggregate-write-listing-2 : tie.Need-slice-aggregate-write-listing-2
-slice-aggregate-write-listing-2 c = search needs
+slice-aggregate-write-output-2 : tie.Need-slice-aggregate-write-output-2
+slice-aggregate-write-output-2 c = search needs
 
-write-listing-requires : tie.Need-write-listing-requires
-write-listing-requires c κs = search needs
-
-print-refusal-requires : tie.Need-print-refusal-requires
-print-refusal-requires c κs = search needs
-
-returns : tie.Need-returns
-returns c = search needs
+write-output-requires : tie.Need-write-output-requires
+write-output-requires c κs = search needs
 
 array-share-prefix-text : tie.Need-array-share-prefix-text
-array-share-prefix-text c = printed-within (c .before .before .before .write-listing .ensures)
+array-share-prefix-text c = output-within _ (c .before .write-output .ensures) (search needs)
 
 slice-aggregate-write-all : tie.Need-slice-aggregate-write-all
-slice-aggregate-write-all c = printed-long (c .before .before .before .before .write-listing .ensures)
+slice-aggregate-write-all c = sym (length-take-le _ _ (output-within _ (c .before .before .write-output .ensures) (search needs)))
 
 write-all-requires : tie.Need-write-all-requires
 write-all-requires c κs = search needs
 
-returns-2 : tie.Need-returns-2
-returns-2 c = search needs
+returns : tie.Need-returns
+returns c = search needs
 
 pub main-spec : {M : Type 1} → statement M
 main-spec =
@@ -52,12 +48,10 @@ main-spec =
     slice-aggregate-read-full
     read-full-requires
     array-share-prefix-pattern
-    slice-aggregate-write-listing
-    slice-aggregate-write-listing-2
-    write-listing-requires
-    print-refusal-requires
-    returns
+    slice-aggregate-write-output
+    slice-aggregate-write-output-2
+    write-output-requires
     array-share-prefix-text
     slice-aggregate-write-all
     write-all-requires
-    returns-2)
+    returns)

@@ -1,0 +1,102 @@
+-- What is left of an edit that was answered, and of the contents of the three files, is all that is printed.
+use mathlib.Core.List.{List, [], _∷_}
+use mathlib.Core.Path.{_≡_, refl, sym, ap, _∙_}
+use Prim.Native.Nat.{ℕ, zero, suc, _+_, _≤_, _<_}
+use native.Mathlib.Omega.{arith}
+use lib.ListN.{length, drop, length-append}
+use Rattle.edit.specs.Core.{answerOf, countsOf}
+use Rattle.edit.specs.declared.Answer.{Answer}
+use Rattle.edit.specs.declared.Answer.the-variants.{Done, Refused}
+use Rattle.edit.specs.declared.Counts.{Counts}
+use Rattle.edit_file.proofs.Only.{edit-only}
+use Rattle.edit_file.specs.EditFile.{EditFile}
+use Rattle.edited_text.specs.Answered.{Writes}
+use Rattle.lyndon.specs.Calls.{ArrayMade, LastFactorsMade}
+use Rattle.lyndon.specs.declared.Filled.{Filled}
+use Rattle.lyndon_edit.proofs.Answered.{done-accepted}
+use Rattle.lyndon_edit.specs.Calls.{EditsNumbers}
+use Rattle.refusals.proofs.First.{First}
+use Rattle.refusals.specs.Refusals.{firstOf, maxPattern, noStretch, blockTooLong, editedTooLong}
+use Rattle.text.proofs.Lines.{refusal-room}
+use Rattle.text.specs.Listing.{editedText, refusalText, printed}
+use Rattle.text.specs.Written.{Room, Puts}
+use Rattle.words.proofs.Tables.{lyndon-array-length, last-factors-length}
+use Rattle.words.specs.Tables.{lyndonArray, lastFactors}
+use Rattle.edited.specs.Output.{refusalIn, editOutput, Output, Prints}
+use Rattle.edited.proofs.Settled.{right, settled}
+
+pub line-room : (number : ℕ) (d : List ℕ) → number < 256 → 77849 ≤ length d → Room (refusalText number) 0 d
+line-room number d l h = omega (arith, refusal-room number (omega arith))
+
+-- an answer of this number that is a refusal
+line-printed : (m : ℕ) (c : Counts) (text : List ℕ) {r : Answer} {k : ℕ} → r ≡ answerOf m c → r ≡ Refused k → printed m text ≡ refusalText (refusalIn r)
+line-printed zero c text {r} {k} e q = absurd (omega (arith, ap isDone (sym e ∙ q)))
+  where
+    isDone : Answer → ℕ
+    isDone (Done c) = 1
+    isDone (Refused k) = 0
+line-printed (suc m) c text e q = ap (λ x. refusalText (refusalIn x)) (sym e)
+
+module _ (s : List ℕ) {a₀ array : List ℕ} {ra : Filled} {l₀ last : List ℕ} {rl : Filled} (from to : ℕ) (b : List ℕ) {row row′ starts starts′ : List ℕ}
+    {r : Answer} (h : length s ≤ maxPattern) (made : ArrayMade s a₀ array ra) (array-room : 4096 ≤ length a₀) (made-last : LastFactorsMade s l₀ last rl)
+    (last-room : 4096 ≤ length l₀) (e : EditsNumbers s array last from to b row row′ starts starts′ r) (middle-room : 810 ≤ length row)
+    (starts-room : 4096 ≤ length starts) where
+  abbrev number : ℕ
+  number = firstOf (noStretch s from to ∷ blockTooLong b ∷ editedTooLong s from to b ∷ [])
+
+  answers : r ≡ answerOf number (countsOf s from to b)
+  answers =
+      let tables = right s (lyndonArray s) a₀ h (lyndon-array-length s) array-room made
+      (right s (lastFactors s) l₀ h (last-factors-length s) last-room made-last First.none) in
+      e .fills .answers
+      ∙ ap (λ k. answerOf k (countsOf s from to b)) (settled s array last from to b row starts h tables middle-room starts-room)
+
+  pub refused-output : {k m n : ℕ} {d d′ : List ℕ} → r ≡ Refused k → m ≡ refusalIn r → Puts (refusalText m) 0 d d′ n
+      → Puts (editOutput s from to b) 0 d d′ n
+  unfolding editOutput
+  refused-output q i p = rw (line-printed number (countsOf s from to b) (editedText s from to b) answers q, ← i) p
+
+  pub edited-output : {c : Counts} {n : ℕ} {d d′ : List ℕ} → r ≡ Done c → Writes s from to b d d′ n → Puts (editOutput s from to b) 0 d d′ n
+  unfolding editOutput
+  edited-output {c} q w =
+      let z = done-accepted number (countsOf s from to b) c (sym answers ∙ q) .0 in
+      record { next = w .size ∙ rw z (omega arith); leaves = w .leaves ∙ rw z }
+
+-- the three cases of the files
+module _ (s b csv : List ℕ) {d d′ : List ℕ} {n : ℕ} where
+  pub prints-long : maxPattern < length s → Puts (refusalText 1) 0 d d′ n → Prints s b csv d d′ n
+  prints-long h p =
+      record {
+        out = refusalText 1;
+        is = record { long = λ _. refl; malformed = λ k _. absurd (omega arith); edit = λ k _ _ _. absurd (omega arith) };
+        puts = p;
+      }
+
+  pub prints-malformed : length s ≤ maxPattern → ((from to : ℕ) → EditFile csv from to → ⊥) → Puts (refusalText 2) 0 d d′ n → Prints s b csv d d′ n
+  prints-malformed h m p =
+      record {
+        out = refusalText 2;
+        is = record { long = λ k. absurd (omega arith); malformed = λ _ _. refl; edit = λ _ from to f. absurd (m from to f) };
+        puts = p;
+      }
+
+  pub prints-edit : length s ≤ maxPattern → {from to : ℕ} → EditFile csv from to → Puts (editOutput s from to b) 0 d d′ n → Prints s b csv d d′ n
+  prints-edit h {from} {to} f p =
+      record {
+        out = editOutput s from to b;
+        is =
+            record {
+              long = λ k. absurd (omega arith);
+              malformed = λ _ m. absurd (m from to f);
+              edit = λ _ from′ to′ g.
+                  let q = edit-only f g in
+                  rw (q .0, q .1) refl;
+            };
+        puts = p;
+      }
+
+-- what is printed lies within the buffer
+pub output-within : {s b csv d d′ : List ℕ} {n : ℕ} → Prints s b csv d d′ n → n ≤ length d′
+output-within {s} {b} {csv} {d} p =
+    let q = p .puts in
+    omega (arith, q .next, ap length (q .leaves), length-append (p .out) (drop (length (p .out)) d))

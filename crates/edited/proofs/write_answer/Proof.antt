@@ -1,0 +1,120 @@
+-- `edited::write_answer` meets its contract: the tables are right and the rows long enough, so that only 2, 3 and 4 refuse the edit.
+use native.Mathlib.Omega.{arith}
+use Rattle.edited.proofs.Taken.{taken, text-room}
+use Rattle.edited.proofs.Printed.{line-room, refused-output, edited-output}
+use borrow.Author.Needs.{needs}
+use Rattle.edited.proofs.write_answer.Statement.{statement}
+use Rattle.edited.proofs.write_answer.Tie as tie
+use Rattle.edited.proofs.write_answer.Reads as reads
+use Rattle.edited.proofs.write_answer.Lts as lts
+use Rattle.edited.proofs.refusal_of.Reads as refusal-of-reads
+use Rattle.edited_text.proofs.write_edited.Reads as write-edited-reads
+use Rattle.lyndon.proofs.last_factors.Reads as last-factors-reads
+use Rattle.lyndon.proofs.lyndon_array.Reads as lyndon-array-reads
+use Rattle.lyndon_edit.proofs.edit_numbers.Reads as edit-numbers-reads
+use Rattle.text.proofs.write_refusal.Reads as write-refusal-reads
+
+slice-aggregate-lyndon-array : tie.Need-slice-aggregate-lyndon-array
+slice-aggregate-lyndon-array c = search needs
+
+lyndon-array-requires : tie.Need-lyndon-array-requires
+lyndon-array-requires c κs = search needs
+
+slice-aggregate-last-factors : tie.Need-slice-aggregate-last-factors
+slice-aggregate-last-factors c = search needs
+
+last-factors-requires : tie.Need-last-factors-requires
+last-factors-requires c κs = search needs
+
+slice-aggregate-edit-numbers : tie.Need-slice-aggregate-edit-numbers
+slice-aggregate-edit-numbers c = search needs
+
+slice-aggregate-edit-numbers-2 : tie.Need-slice-aggregate-edit-numbers-2
+slice-aggregate-edit-numbers-2 c = search needs
+
+slice-aggregate-edit-numbers-3 : tie.Need-slice-aggregate-edit-numbers-3
+slice-aggregate-edit-numbers-3 c = search needs
+
+slice-aggregate-edit-numbers-4 : tie.Need-slice-aggregate-edit-numbers-4
+slice-aggregate-edit-numbers-4 c = search needs
+
+edit-numbers-requires : tie.Need-edit-numbers-requires
+edit-numbers-requires c κs = search needs
+
+enum-known-answer : tie.Need-enum-known-answer
+enum-known-answer c = search needs
+
+enum-told : tie.Need-enum-told
+enum-told c = search needs
+
+refusal-of-requires : tie.Need-refusal-of-requires
+refusal-of-requires c κs = search needs
+
+cast-write-refusal : tie.Need-cast-write-refusal
+cast-write-refusal c = search needs
+
+write-refusal-requires : tie.Need-write-refusal-requires
+write-refusal-requires c κs =
+    let f = c .before .before .before .before .before .before .before .before .before .before .before .before .before .before .before .before .before .before .before .before in
+    line-room (c .before .refusal-of .result) (f .args .text .now) (search needs) (f .pre .1)
+
+same-length : tie.Need-same-length
+same-length c = search needs
+
+returns : tie.Need-returns
+returns c =
+    let answered = c .before .before .before .before .before .before .before .before .before in
+    let f = c .before .before .before .before .before .before .before .before .before .before .before .before .before .before .before .before .before .before .before .before .before .before .before in
+    let a = f .args in
+    refused-output (a .pattern .now) (a .from) (a .to) (a .block .now) (f .pre .0) (c .before .before .before .before .before .before .before .before .before .before .before .before .before .before .before .before .before .before .lyndon-array .ensures) (search needs)
+    (c .before .before .before .before .before .before .before .before .before .before .before .before .before .before .before .last-factors .ensures) (search needs) (answered .edit-numbers .ensures) (search needs) (search needs)
+    (c .before .before .before .before .before .enum-told .given .1) (c .before .before .before .before .refusal-of .ensures) (c .before .before .write-refusal .ensures)
+
+slice-aggregate-write-edited : tie.Need-slice-aggregate-write-edited
+slice-aggregate-write-edited c = search needs
+
+slice-aggregate-write-edited-2 : tie.Need-slice-aggregate-write-edited-2
+slice-aggregate-write-edited-2 c = search needs
+
+write-edited-requires : tie.Need-write-edited-requires
+write-edited-requires c κs =
+    let a = taken (c .before .before .before .before .before .before .before .before .edit-numbers .ensures) (c .before .before .before .before .answer .given .1) in
+    (a, omega (arith, text-room a, c .before .before .before .before .before .before .before .before .before .before .before .before .before .before .before .before .before .before .before .before .before .before .pre .1))
+
+same-length-2 : tie.Need-same-length-2
+same-length-2 c = search needs
+
+returns-2 : tie.Need-returns-2
+returns-2 c =
+    let answered = c .before .before .before .before .before .before .before .before .before .before .before in
+    let f = c .before .before .before .before .before .before .before .before .before .before .before .before .before .before .before .before .before .before .before .before .before .before .before .before .before in
+    let a = f .args in
+    edited-output (a .pattern .now) (a .from) (a .to) (a .block .now) (f .pre .0) (c .before .before .before .before .before .before .before .before .before .before .before .before .before .before .before .before .before .before .before .before .lyndon-array .ensures) (search needs)
+    (c .before .before .before .before .before .before .before .before .before .before .before .before .before .before .before .before .before .last-factors .ensures) (search needs) (answered .edit-numbers .ensures) (search needs) (search needs)
+    (c .before .before .before .before .before .before .before .answer .given .1) (c .before .before .write-edited .ensures)
+
+pub write-answer-spec : {M : Type 1} → statement M
+write-answer-spec =
+    tie.close
+    (tie.spec
+    slice-aggregate-lyndon-array
+    lyndon-array-requires
+    slice-aggregate-last-factors
+    last-factors-requires
+    slice-aggregate-edit-numbers
+    slice-aggregate-edit-numbers-2
+    slice-aggregate-edit-numbers-3
+    slice-aggregate-edit-numbers-4
+    edit-numbers-requires
+    enum-known-answer
+    enum-told
+    refusal-of-requires
+    cast-write-refusal
+    write-refusal-requires
+    same-length
+    returns
+    slice-aggregate-write-edited
+    slice-aggregate-write-edited-2
+    write-edited-requires
+    same-length-2
+    returns-2)
