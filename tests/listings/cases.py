@@ -81,9 +81,13 @@ def edited(s, b, csv):
 
 
 def run(program, stdin, files):
-    """What the program prints; where `stdin` is None it runs without a standard input, so that the first file it opens is number 0."""
+    """What the program prints; where `stdin` is None it runs without a standard input, so that the first file it opens is number 0.
+    A file whose content is None is a folder, which opens and can't be read."""
     with tempfile.TemporaryDirectory() as folder:
         for name, content in files.items():
+            if content is None:
+                os.mkdir(os.path.join(folder, name))
+                continue
             with open(os.path.join(folder, name), "wb") as f:
                 f.write(content)
         command = [program] if stdin is not None else ["sh", "-c", 'exec "$0" <&-', program]
@@ -112,7 +116,7 @@ def edited_cases():
     yield "equal words across the seams", {"pattern.bin": b"aa", "block.bin": b"a", "edit.csv": EDIT + b"1,1\r\n"}, seam
     for name, s, b, row in [("P5", SHEET, b"b", b"5,6"), ("P6", SHEET, b"a", b"11,11"), ("P13, leading zeros", b"aba", b"c", b"00003,3"),
                             ("emptied", SHEET, b"", b"0,13"), ("full size", full, full[:256], b"1000,1256"), ("4", full, b"xx", b"5,5"),
-                            ("3", SHEET, bytes(257), b"0,1"), ("2 before 3", SHEET, bytes(257), b"5,4"), ("past the end", SHEET, b"", b"0,14"), ("4,096 starts", b"a" * 4096, b"", b"0,0"),
+                            ("3", SHEET, bytes(257), b"0,1"), ("3 before 4", full, bytes(257), b"5,5"), ("2 before 3", SHEET, bytes(257), b"5,4"), ("past the end", SHEET, b"", b"0,14"), ("4,096 starts", b"a" * 4096, b"", b"0,0"),
                             ("256 middle groups", b"", bytes(range(255, -1, -1)), b"0,0")]:
         csv = EDIT + row + b"\r\n"
         yield name, {"pattern.bin": s, "block.bin": b, "edit.csv": csv}, edited(s, b, csv)
@@ -124,6 +128,7 @@ def edited_cases():
                              EDIT + b"00005,00006\r\nx"]):
         yield "malformed %d" % i, {"pattern.bin": SHEET, "block.bin": b"b", "edit.csv": csv}, refused(2)
     yield "no pattern, no block", {"edit.csv": EDIT + b"0,0\r\n"}, HEADER
+    yield "a pattern that can't be read", {"pattern.bin": None, "block.bin": b"ba", "edit.csv": EDIT + b"0,0\r\n"}, edited(b"", b"ba", EDIT + b"0,0\r\n")
     yield "no file", {}, refused(2)
     for i in range(100):
         s = bytes(rnd.choice(b"ab\x80") for _ in range(rnd.randrange(30)))

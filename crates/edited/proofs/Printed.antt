@@ -10,7 +10,6 @@ use Rattle.edit.specs.declared.Answer.the-variants.{Done, Refused}
 use Rattle.edit.specs.declared.Counts.{Counts}
 use Rattle.edit_file.proofs.Only.{edit-only}
 use Rattle.edit_file.specs.EditFile.{EditFile}
-use Rattle.edited_text.specs.Answered.{Writes}
 use Rattle.lyndon.specs.Calls.{ArrayMade, LastFactorsMade}
 use Rattle.lyndon.specs.declared.Filled.{Filled}
 use Rattle.lyndon_edit.proofs.Answered.{done-accepted}
@@ -56,11 +55,9 @@ module _ (s : List ℕ) {a₀ array : List ℕ} {ra : Filled} {l₀ last : List 
   unfolding editOutput
   refused-output q i p = rw (line-printed number (countsOf s from to b) (editedText s from to b) answers q, ← i) p
 
-  pub edited-output : {c : Counts} {n : ℕ} {d d′ : List ℕ} → r ≡ Done c → Writes s from to b d d′ n → Puts (editOutput s from to b) 0 d d′ n
+  pub edited-output : {c : Counts} {n : ℕ} {d d′ : List ℕ} → r ≡ Done c → Puts (editedText s from to b) 0 d d′ n → Puts (editOutput s from to b) 0 d d′ n
   unfolding editOutput
-  edited-output {c} q w =
-      let z = done-accepted number (countsOf s from to b) c (sym answers ∙ q) .0 in
-      record { next = w .size ∙ rw z (omega arith); leaves = w .leaves ∙ rw z }
+  edited-output {c} q p = rw (done-accepted number (countsOf s from to b) c (sym answers ∙ q) .0) p
 
 -- the three cases of the files
 module _ (s b csv : List ℕ) {d d′ : List ℕ} {n : ℕ} where

@@ -3,15 +3,15 @@ use mathlib.Core.List.{List, [], _∷_, _++_}
 use mathlib.Core.Path.{_≡_, refl, sym, ap, _∙_}
 use Prim.Native.Nat.{ℕ, zero, suc, _+_, _-_, _*_, _≤_}
 use native.Mathlib.Omega.{arith}
-use lib.ListN.{length, take, drop, length-append}
-use lib.Seq.{take-at, length-take-le}
+use lib.ListN.{length, take, drop}
+use lib.Seq.{take-at}
 use Rattle.edit.proofs.Passed.{first-earlier, passed-shape, passed-table}
 use Rattle.edit.proofs.Refused.{Shaped}
 use Rattle.edit.specs.Core.{editRefusals, countsOf}
 use Rattle.edit.specs.declared.Answer.{Answer}
 use Rattle.edit.specs.declared.Answer.the-variants.{Done}
 use Rattle.edit.specs.declared.Counts.{Counts}
-use Rattle.edited_text.specs.Answered.{Answered, Writes}
+use Rattle.edited_text.specs.Answered.{Answered}
 use Rattle.lyndon_edit.proofs.Answered.{done-accepted}
 use Rattle.lyndon_edit.specs.Calls.{EditsNumbers}
 use Rattle.refusals.specs.Refusals.{Refusal, firstOf, rowAfter, tooShort}
@@ -72,14 +72,7 @@ module _ {s array last : List ℕ} {from to : ℕ} {b row row′ starts starts�
         groups = ap (take (3 * c .groups)) w ∙ take-at out (drop (length out) row) (3 * c .groups) n;
       }
 
--- the buffer suffices, and what is counted lies within it
+-- the buffer suffices
 pub text-room : {s array : List ℕ} {from to : ℕ} {b : List ℕ} {c : Counts} {row : List ℕ} → Answered s array from to b c row
     → length (editedText s from to b) ≤ 77849
 text-room {s} {array} {from} {to} {b} a = edited-room s from to b (a .start) (a .stretch) (a .fits)
-
-module _ {s : List ℕ} {from to : ℕ} {b buffer buffer′ : List ℕ} {n : ℕ} (w : Writes s from to b buffer buffer′ n) where
-  pub text-within : n ≤ length buffer′
-  text-within = omega (arith, w .size, ap length (w .leaves), length-append (editedText s from to b) (drop (length (editedText s from to b)) buffer))
-
-  pub text-long : n ≡ length (take n buffer′)
-  text-long = sym (length-take-le n buffer′ text-within)

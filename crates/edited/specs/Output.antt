@@ -1,4 +1,4 @@
--- All that the program prints, for every content of its three files.
+-- What the program is to print, for every content of its three files.
 use mathlib.Core.List.{List, [], _∷_}
 use mathlib.Core.Path.{_≡_}
 use Prim.Native.Nat.{ℕ, _≤_, _<_}

@@ -1,6 +1,6 @@
 // Prints the edited listing of the pattern, the block and the edit in three files of the working folder, or the refusal line. A file that
-// can't be opened or read is empty; of each file one byte is read past the longest that is accepted. What is printed is made and proved in
-// `write_output`; what is read and written is the operating system's.
+// can't be opened or read is empty; of each file one byte is read past the longest that is accepted. What is to be printed for
+// the bytes that were read is made and proved in `write_output`; `main` reads and writes.
 use edit::Answer;
 use edit_file::Parsed;
 use edit_file::parse;
@@ -37,7 +37,7 @@ fn read_file(path: &[u8], bytes: &mut [u8]) -> usize
     n
 }
 
-// The number of an answer that is none.
+// The number of the refusal; 0 of an answer, which is not asked for.
 fn refusal_of(answer: Answer) -> u8
     ensures { λ r. ⌜ r ≡ refusalIn answer ⌝ }
 {

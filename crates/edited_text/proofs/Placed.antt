@@ -5,7 +5,7 @@ use Prim.Native.Nat.{ℕ, _+_, _-_, _≤_}
 use native.Mathlib.Omega.{arith}
 use lib.ListN.{length, take, drop, length-append}
 use lib.Seq.{take-at, length-take-le}
-use Rattle.rows.specs.Row.{written, writtenAt}
+use Rattle.rows.specs.Row.{written}
 use Rattle.text.proofs.Puts.{puts-length, puts-then}
 use Rattle.text.specs.Listing.{header, lines, editedText}
 use Rattle.text.specs.Written.{Room, Puts}
@@ -13,7 +13,7 @@ use Rattle.words.proofs.Edit.{length-edited}
 use Rattle.words.specs.Edit.{edited}
 use Rattle.words.specs.Tables.{suffixGroups}
 use Rattle.edit.specs.declared.Counts.{Counts}
-use Rattle.edited_text.specs.Answered.{Answered, Writes}
+use Rattle.edited_text.specs.Answered.{Answered}
 use Rattle.edited_text.specs.Parts.{partsText, Joined}
 use Rattle.edited_text.proofs.Parted.{parts-edited}
 
@@ -95,9 +95,5 @@ module _ {s array : List ℕ} {from to : ℕ} {b : List ℕ} {c : Counts} {middl
       parts-room buffer h = omega (arith, ap length same-text)
 
       pub writes : {buffer buffer′ : List ℕ} {r : ℕ} → Puts (partsText (take (from + length b + (length s - to)) row′) end q) 0 buffer buffer′ r
-          → Writes s from to b buffer buffer′ r
-      writes {buffer} p =
-          record {
-            size = omega (arith, p .next, ap length same-text);
-            leaves = p .leaves ∙ ap (λ x. writtenAt 0 x buffer) same-text;
-          }
+          → Puts (editedText s from to b) 0 buffer buffer′ r
+      writes p = rw same-text at p

@@ -1,4 +1,4 @@
--- What the writer of the edited listing is handed, and what it leaves.
+-- What the writer of the edited listing is handed: what the call that answers the edit ensures.
 use mathlib.Core.List.{List}
 use mathlib.Core.Path.{_≡_}
 use Prim.Native.Nat.{ℕ, _*_, _≤_}
@@ -6,8 +6,6 @@ use lib.ListN.{length, take}
 use Rattle.edit.specs.Core.{countsOf}
 use Rattle.edit.specs.declared.Counts.{Counts}
 use Rattle.refusals.specs.Refusals.{maxPattern}
-use Rattle.rows.specs.Row.{written}
-use Rattle.text.specs.Listing.{editedText}
 use Rattle.words.specs.Edit.{edited, middleGroups}
 use Rattle.words.specs.Factors.{groupNumbers}
 use Rattle.words.specs.Tables.{lyndonArray}
@@ -20,8 +18,3 @@ pub record Answered (s array : List ℕ) (from to : ℕ) (b : List ℕ) (c : Cou
   pub table : take (length s) array ≡ lyndonArray s
   pub numbers : c ≡ countsOf s from to b
   pub groups : take (3 * c .groups) row ≡ groupNumbers (middleGroups s from to b)
-
--- The buffer begins with the edited listing, the rest is as before, and the answer is the listing's length.
-pub record Writes (s : List ℕ) (from to : ℕ) (b buffer buffer′ : List ℕ) (r : ℕ) : Type 0 where
-  pub size : r ≡ length (editedText s from to b)
-  pub leaves : buffer′ ≡ written (editedText s from to b) buffer

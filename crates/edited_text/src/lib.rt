@@ -12,7 +12,7 @@ ghost use lib.ListN.{length};
 ghost use Rattle.text.specs.Listing.{lines, editedText};
 ghost use Rattle.text.specs.Written.{Room, Puts};
 ghost use Rattle.words.specs.Tables.{suffixGroups};
-ghost use Rattle.edited_text.specs.Answered.{Answered, Writes};
+ghost use Rattle.edited_text.specs.Answered.{Answered};
 ghost use Rattle.edited_text.specs.Parts.{Ahead, Joined, Parted, Stands, partsText};
 
 // Where the kept factors end and the resumed ones start, as places in the edited pattern.
@@ -21,7 +21,7 @@ pub struct Seams {
     pub place: usize,
 }
 
-// The groups of the middle stand in `middle`, three numbers each: the first one starts where the kept factors end.
+// The kept factors end where the first group of the middle starts, or where the resumed ones start if there is none.
 fn joints(
     pattern: &[u8],
     array: &[u16],
@@ -110,6 +110,7 @@ fn write_parts(
     write_stored(pattern, array, resume, t, place, buffer, third)
 }
 
+// Writes the edited listing to the front of the buffer, and answers its length.
 pub fn write_edited(
     pattern: &[u8],
     array: &[u16],
@@ -121,10 +122,10 @@ pub fn write_edited(
     buffer: &mut [u8],
 ) -> usize
     requires { ⌜ Answered (now pattern) (now array) from to (now block) answer (now middle) × (length (editedText (now pattern) from to (now block)) ≤ length (now buffer)) ⌝ }
-    ensures { λ r. ⌜ Writes (now (pattern .entry)) from to (now (block .entry)) (now (buffer .entry)) (now (buffer .exit)) r ⌝ }
+    ensures { λ r. ⌜ Puts (editedText (now (pattern .entry)) from to (now (block .entry))) 0 (now (buffer .entry)) (now (buffer .exit)) r ⌝ }
 {
     let resume = answer.resume;
-    let parts = joints(pattern, array, from, to, block, answer, middle);
+    let seams = joints(pattern, array, from, to, block, answer, middle);
     let mut t = [0u8; 4096];
     splice(pattern, from, to, block, &mut t);
     let m = from + block.len() + (pattern.len() - to);
@@ -133,8 +134,8 @@ pub fn write_edited(
         array,
         resume,
         &t[..m],
-        parts.end,
-        parts.place,
+        seams.end,
+        seams.place,
         middle,
         buffer,
     )

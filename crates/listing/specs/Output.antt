@@ -1,4 +1,4 @@
--- All that the program prints, for every input.
+-- What the program is to print, for every input.
 use mathlib.Core.List.{List, [], _∷_}
 use Prim.Native.Nat.{ℕ}
 use Rattle.refusals.specs.Refusals.{firstOf, patternTooLong}

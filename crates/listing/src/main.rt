@@ -1,5 +1,5 @@
 // Prints the factor listing of the pattern on standard input, or the refusal line. It reads no more than one byte over the longest pattern.
-// What is printed is made and proved in `write_output`; what is read and written is the operating system's.
+// What is to be printed for the bytes that were read is made and proved in `write_output`; `main` reads and writes.
 use libc::STDIN_FILENO;
 use libc::STDOUT_FILENO;
 use lyndon_text::write_listing;

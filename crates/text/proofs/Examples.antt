@@ -1,4 +1,4 @@
--- The document's listing and others, computed from the definitions.
+-- The listing of the worked example and others, computed from the definitions.
 use mathlib.Core.Path.{_≡_, refl}
 use Rattle.hex.specs.Hex.{pairOf}
 use Rattle.words.specs.Factors.{factors}
@@ -7,7 +7,7 @@ use Rattle.words.specs.Edit.{edited, keptOf, kept, resume, middleOf, middle, mi
 use Rattle.text.specs.Decimal.{codes, digitCount, decimal}
 use Rattle.text.specs.Listing.{header, line, listingText, keptGroups, resumedGroups, editedText, refusalText}
 
--- document 01, "Two listings"
+-- the worked example
 pub example-listing : listingText (codes "acbabcabcabac")
     ≡ codes "start,length,power,word\r\n0,3,1,616362\r\n3,3,2,616263\r\n9,4,1,61626163\r\n"
 unfolding listingText groups factors header line decimal digitCount pairOf

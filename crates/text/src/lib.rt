@@ -102,7 +102,7 @@ pub fn write_line(start: usize, power: usize, word: &[u8], buffer: &mut [u8], at
 }
 
 // The length of that line.
-pub fn line_length(start: usize, power: usize, word: &[u8]) -> usize
+fn line_length(start: usize, power: usize, word: &[u8]) -> usize
     requires { ⌜ length (line start (length (now word)) power (now word)) < 18446744073709551616 ⌝ }
     ensures { λ r. ⌜ r ≡ length (line start (length (now (word .entry))) power (now (word .entry))) ⌝ }
 {
@@ -111,7 +111,7 @@ pub fn line_length(start: usize, power: usize, word: &[u8]) -> usize
 }
 
 // Writes the lines of a pattern's groups from a place on.
-pub fn write_lines(s: &[u8], from: usize, buffer: &mut [u8], at: usize) -> usize
+fn write_lines(s: &[u8], from: usize, buffer: &mut [u8], at: usize) -> usize
     requires { ⌜ (from ≤ length (now s)) × Room (lines (now s) (suffixGroups (now s) from)) at (now buffer) ⌝ }
     ensures { λ r. ⌜ Puts (lines (now (s .entry)) (suffixGroups (now (s .entry)) from)) at (now (buffer .entry)) (now (buffer .exit)) r ⌝ }
 {
@@ -127,7 +127,7 @@ pub fn write_lines(s: &[u8], from: usize, buffer: &mut [u8], at: usize) -> usize
 }
 
 // The length of these lines.
-pub fn lines_length(s: &[u8], from: usize) -> usize
+fn lines_length(s: &[u8], from: usize) -> usize
     requires { ⌜ (length (now s) ≤ 65535) × (from ≤ length (now s)) ⌝ }
     ensures { λ r. ⌜ r ≡ length (lines (now (s .entry)) (suffixGroups (now (s .entry)) from)) ⌝ }
 {

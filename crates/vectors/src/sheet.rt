@@ -1,4 +1,4 @@
-// Document 01's words on short patterns: the mark, Lyndon words, the order of bytes, and those lines of the trainer's sheet that ask these calls.
+// What the papers say of short patterns: the mark, Lyndon words, the order of bytes, and those lines of the trainer's sheet that ask these calls.
 use crate::calls;
 use crate::show;
 

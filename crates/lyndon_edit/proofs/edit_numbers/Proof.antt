@@ -1,3 +1,4 @@
+-- `lyndon_edit::edit_numbers` meets its contract: the core's answer, read as demand 3.
 use Rattle.lyndon_edit.proofs.Answered.{numbers-answered}
 use borrow.Author.Needs.{needs}
 use Rattle.lyndon_edit.proofs.edit_numbers.Statement.{statement}
