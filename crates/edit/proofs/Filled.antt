@@ -20,20 +20,20 @@ use Rattle.words.proofs.Middle.{middle-suffix}
 use Rattle.longest.specs.Best.{longestOf}
 use Rattle.longest.specs.declared.Longest.{Longest}
 use Rattle.edit.proofs.Meets.{edited-short}
-use Rattle.edit.specs.Core.{Fills, countsOf, roomRefusals}
-use Rattle.edit.specs.Inner.{Accepted, planOf}
+use Rattle.edit.specs.Core.{countsOf}
+use Rattle.edit.specs.Inner.{Accepted, planOf, roomRefusals, FillsNumbers}
 use Rattle.edit.specs.declared.Counts.{Counts}
 use Rattle.edit.specs.declared.Answer.the-variants.{Done, Refused}
 use Rattle.edit.specs.declared.Seams.{Seams}
 
 module _ {refusals : List Refusal} {s : List ℕ} {from to : ℕ} {b numbers starts : List ℕ} where
   -- a refused call leaves the rows as they were
-  pub fills-refused : {k : ℕ} → firstOf refusals ≡ suc k → Fills refusals s from to b numbers numbers starts starts (Refused (suc k))
+  pub fills-refused : {k : ℕ} → firstOf refusals ≡ suc k → FillsNumbers refusals s from to b numbers numbers starts starts (Refused (suc k))
   fills-refused e = record { answers = rw e refl; middle = rw e refl; places = rw e refl }
 
   pub fills-done : {numbers′ starts′ : List ℕ} {c : Counts} → firstOf refusals ≡ 0 → c ≡ countsOf s from to b
       → numbers′ ≡ written (groupNumbers (middleGroups s from to b)) numbers → starts′ ≡ written (longestStarts (edited s from to b)) starts
-      → Fills refusals s from to b numbers numbers′ starts starts′ (Done c)
+      → FillsNumbers refusals s from to b numbers numbers′ starts starts′ (Done c)
   fills-done e c m p = record { answers = rw e (ap Done c); middle = rw e m; places = rw e p }
 
 counts-same : {k l r u g h n m x y : ℕ} → k ≡ l → r ≡ u → g ≡ h → n ≡ m → x ≡ y
@@ -103,18 +103,18 @@ module _ {s array : List ℕ} {from to : ℕ} {b t : List ℕ} (a : Accepted s a
           counts-same (ap (λ q. q .kept) e) (ap (λ q. q .resume) e) counted long listed
 
       module _ {room : ℕ} {numbers starts : List ℕ} where
-        pub fills-no-room : room < n → Fills (roomRefusals s from to b room (length starts)) s from to b numbers numbers starts starts (Refused 8)
+        pub fills-no-room : room < n → FillsNumbers (roomRefusals s from to b room (length starts)) s from to b numbers numbers starts starts (Refused 8)
         fills-no-room h = fills-refused (rw (lt-ltb room (length (middleGroups s from to b)) (omega (arith, counted))) refl)
 
         pub fills-no-starts : n ≤ room → length starts < found .count
-            → Fills (roomRefusals s from to b room (length starts)) s from to b numbers numbers starts starts (Refused 8)
+            → FillsNumbers (roomRefusals s from to b room (length starts)) s from to b numbers numbers starts starts (Refused 8)
         fills-no-starts h k =
             let long = length (longestStarts (edited s from to b)) in
             fills-refused (rw (groups-pass h, lt-ltb (length starts) long (omega (arith, listed))) refl)
 
         pub fills-rows : {numbers′ starts′ : List ℕ} → n ≤ room → found .count ≤ length starts
             → numbers′ ≡ written (groupNumbers (suffixGroups (take (p .place) t) (p .end))) numbers → starts′ ≡ written (longestStarts t) starts
-            → Fills (roomRefusals s from to b room (length starts)) s from to b numbers numbers′ starts starts′
+            → FillsNumbers (roomRefusals s from to b room (length starts)) s from to b numbers numbers′ starts starts′
             (Done (record { kept = p .kept; resume = p .resume; groups = n; length = found .length; starts = found .count }))
         fills-rows h k m q =
             let long = length (longestStarts (edited s from to b)) in

@@ -16,8 +16,8 @@ use Rattle.words.specs.Tables.{lyndonArray}
 use Rattle.words.proofs.Bounded.{le-or-lt}
 use Rattle.words.proofs.Edit.{length-edited}
 use Rattle.words.proofs.Order.{same-true}
-use Rattle.edit.specs.Core.{Fills, editRefusals}
-use Rattle.edit.specs.Inner.{Accepted}
+use Rattle.edit.specs.Core.{editRefusals}
+use Rattle.edit.specs.Inner.{Accepted, FillsNumbers}
 use Rattle.edit.specs.declared.Answer.{Answer}
 use Rattle.edit.specs.declared.Answer.the-variants.{Refused}
 use Rattle.edit.proofs.Refused.{Shaped, refuses-pattern, refuses-backward, refuses-end}
@@ -59,7 +59,7 @@ not-wrong false h = absurd (h refl)
 module _ (s array last : List ℕ) (from to : ℕ) (b : List ℕ) where
   -- refused by one of them
   pub fills-first : {later : List Refusal} {numbers starts : List ℕ} (n : ℕ) → n ≡ firstOf (editRefusals s array last from to b) → (n ≡ 0 → ⊥)
-      → Fills (editRefusals s array last from to b ++ later) s from to b numbers numbers starts starts (Refused n)
+      → FillsNumbers (editRefusals s array last from to b ++ later) s from to b numbers numbers starts starts (Refused n)
   fills-first zero e h = absurd (h refl)
   fills-first {later} (suc k) e h = fills-refused (first-earlier (editRefusals s array last from to b) later (sym e))
 
@@ -70,8 +70,8 @@ module _ (s array last : List ℕ) (from to : ℕ) (b : List ℕ) where
 
     -- refused or answered by what is tested later
     pub fills-later : {later : List Refusal} {numbers numbers′ starts starts′ : List ℕ} {r : Answer}
-        → Fills later s from to b numbers numbers′ starts starts′ r
-        → Fills (editRefusals s array last from to b ++ later) s from to b numbers numbers′ starts starts′ r
+        → FillsNumbers later s from to b numbers numbers′ starts starts′ r
+        → FillsNumbers (editRefusals s array last from to b ++ later) s from to b numbers numbers′ starts starts′ r
     fills-later {later} f =
         let same : firstOf (editRefusals s array last from to b ++ later) ≡ firstOf later = first-later (editRefusals s array last from to b) later
         (omega arith, (omega arith, (omega arith, (omega arith, (omega arith, (omega arith, tt)))))) e in

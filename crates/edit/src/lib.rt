@@ -17,8 +17,8 @@ ghost use mathlib.Core.Path.{_≡_};
 ghost use Prim.Native.Nat.{_*_, _≤_, min};
 ghost use lib.ListN.{length};
 ghost use Rattle.refusals.specs.Refusals.{firstOf};
-ghost use Rattle.edit.specs.Core.{countOf, editRefusals, roomRefusals, Fills};
-ghost use Rattle.edit.specs.Inner.{Accepted, planOf};
+ghost use Rattle.edit.specs.Core.{editRefusals};
+ghost use Rattle.edit.specs.Inner.{Accepted, planOf, countOf, roomRefusals, FillsNumbers};
 
 // What an accepted edit answers beside the two rows: kept, resume, the number of middle groups, the longest length, the number of starts.
 pub struct Counts {
@@ -128,7 +128,7 @@ fn fill(
     starts: &mut [u16],
 ) -> Answer
     requires { ⌜ Accepted (now pattern) (now table) from to (now block) (now t) × (3 * min room 270 ≤ length (now numbers)) ⌝ }
-    ensures { λ r. ⌜ Fills (roomRefusals (now (pattern .entry)) from to (now (block .entry)) room (length (now (starts .entry)))) (now (pattern .entry)) from to (now (block .entry)) (now (numbers .entry)) (now (numbers .exit)) (now (starts .entry)) (now (starts .exit)) r ⌝ }
+    ensures { λ r. ⌜ FillsNumbers (roomRefusals (now (pattern .entry)) from to (now (block .entry)) room (length (now (starts .entry)))) (now (pattern .entry)) from to (now (block .entry)) (now (numbers .entry)) (now (numbers .exit)) (now (starts .entry)) (now (starts .exit)) r ⌝ }
 {
     let p = plan(pattern, table, from, to, block, t);
     let end = p.end;
@@ -165,7 +165,7 @@ pub fn core(
     starts: &mut [u16],
 ) -> Answer
     requires { ⌜ 3 * min room 270 ≤ length (now numbers) ⌝ }
-    ensures { λ r. ⌜ Fills (editRefusals (now (pattern .entry)) (now (array .entry)) (now (last .entry)) from to (now (block .entry)) ++ roomRefusals (now (pattern .entry)) from to (now (block .entry)) room (length (now (starts .entry)))) (now (pattern .entry)) from to (now (block .entry)) (now (numbers .entry)) (now (numbers .exit)) (now (starts .entry)) (now (starts .exit)) r ⌝ }
+    ensures { λ r. ⌜ FillsNumbers (editRefusals (now (pattern .entry)) (now (array .entry)) (now (last .entry)) from to (now (block .entry)) ++ roomRefusals (now (pattern .entry)) from to (now (block .entry)) room (length (now (starts .entry)))) (now (pattern .entry)) from to (now (block .entry)) (now (numbers .entry)) (now (numbers .exit)) (now (starts .entry)) (now (starts .exit)) r ⌝ }
 {
     let number = refusal(pattern, array, last, from, to, block);
     if number != 0 {

@@ -1,7 +1,7 @@
 -- What is left of an edit that was answered, and of the contents of the three files, is all that is printed.
 use mathlib.Core.List.{List, [], _∷_}
 use mathlib.Core.Path.{_≡_, refl, sym, ap, _∙_}
-use Prim.Native.Nat.{ℕ, zero, suc, _+_, _≤_, _<_}
+use Prim.Native.Nat.{ℕ, zero, suc, _≤_, _<_}
 use native.Mathlib.Omega.{arith}
 use lib.ListN.{length, drop, length-append}
 use Rattle.edit.specs.Core.{answerOf, countsOf}
@@ -17,11 +17,13 @@ use Rattle.lyndon_edit.specs.Calls.{EditsNumbers}
 use Rattle.refusals.proofs.First.{First}
 use Rattle.refusals.specs.Refusals.{firstOf, maxPattern, noStretch, blockTooLong, editedTooLong}
 use Rattle.text.proofs.Lines.{refusal-room}
+use Rattle.text.proofs.Puts.{puts-begins}
 use Rattle.text.specs.Listing.{editedText, refusalText, printed}
 use Rattle.text.specs.Written.{Room, Puts}
 use Rattle.words.proofs.Tables.{lyndon-array-length, last-factors-length}
 use Rattle.words.specs.Tables.{lyndonArray, lastFactors}
-use Rattle.edited.specs.Output.{refusalIn, editOutput, Output, Prints}
+use Rattle.edited.specs.Output.{editOutput, Prints}
+use Rattle.edited.specs.Refusal.{refusalIn}
 use Rattle.edited.proofs.Settled.{right, settled}
 
 pub line-room : (number : ℕ) (d : List ℕ) → number < 256 → 77849 ≤ length d → Room (refusalText number) 0 d
@@ -66,7 +68,7 @@ module _ (s b csv : List ℕ) {d d′ : List ℕ} {n : ℕ} where
       record {
         out = refusalText 1;
         is = record { long = λ _. refl; malformed = λ k _. absurd (omega arith); edit = λ k _ _ _. absurd (omega arith) };
-        puts = p;
+        begins = puts-begins p;
       }
 
   pub prints-malformed : length s ≤ maxPattern → ((from to : ℕ) → EditFile csv from to → ⊥) → Puts (refusalText 2) 0 d d′ n → Prints s b csv d d′ n
@@ -74,7 +76,7 @@ module _ (s b csv : List ℕ) {d d′ : List ℕ} {n : ℕ} where
       record {
         out = refusalText 2;
         is = record { long = λ k. absurd (omega arith); malformed = λ _ _. refl; edit = λ _ from to f. absurd (m from to f) };
-        puts = p;
+        begins = puts-begins p;
       }
 
   pub prints-edit : length s ≤ maxPattern → {from to : ℕ} → EditFile csv from to → Puts (editOutput s from to b) 0 d d′ n → Prints s b csv d d′ n
@@ -89,11 +91,11 @@ module _ (s b csv : List ℕ) {d d′ : List ℕ} {n : ℕ} where
                   let q = edit-only f g in
                   rw (q .0, q .1) refl;
             };
-        puts = p;
+        begins = puts-begins p;
       }
 
 -- what is printed lies within the buffer
 pub output-within : {s b csv d d′ : List ℕ} {n : ℕ} → Prints s b csv d d′ n → n ≤ length d′
 output-within {s} {b} {csv} {d} p =
-    let q = p .puts in
-    omega (arith, q .next, ap length (q .leaves), length-append (p .out) (drop (length (p .out)) d))
+    let q = p .begins in
+    omega (arith, q .size, ap length (q .leaves), length-append (p .out) (drop (length (p .out)) d))

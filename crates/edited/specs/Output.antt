@@ -3,17 +3,9 @@ use mathlib.Core.List.{List, [], _∷_}
 use mathlib.Core.Path.{_≡_}
 use Prim.Native.Nat.{ℕ, _≤_, _<_}
 use lib.ListN.{length}
-use Rattle.edit.specs.declared.Answer.{Answer}
-use Rattle.edit.specs.declared.Answer.the-variants.{Done, Refused}
 use Rattle.edit_file.specs.EditFile.{EditFile}
 use Rattle.refusals.specs.Refusals.{firstOf, maxPattern, noStretch, blockTooLong, editedTooLong}
-use Rattle.text.specs.Listing.{editedText, refusalText, printed}
-use Rattle.text.specs.Written.{Puts}
-
--- The number of an answer's refusal, 0 of none.
-abbrev pub refusalIn : Answer → ℕ
-refusalIn (Done c) = 0
-refusalIn (Refused k) = k
+use Rattle.text.specs.Listing.{editedText, refusalText, printed, Begins}
 
 -- For an edit of a pattern that is not too long: the edited listing, or the refusal line. 2, 3 and 4 are the only refusals.
 unfoldable pub editOutput : List ℕ → ℕ → ℕ → List ℕ → List ℕ
@@ -25,8 +17,8 @@ pub record Output (s b csv out : List ℕ) : Type 0 where
   pub malformed : length s ≤ maxPattern → ((from to : ℕ) → EditFile csv from to → ⊥) → out ≡ refusalText 2
   pub edit : length s ≤ maxPattern → (from to : ℕ) → EditFile csv from to → out ≡ editOutput s from to b
 
--- The buffer begins with it, the rest is as before, and the answer is its length.
+-- The buffer begins with it.
 pub record Prints (s b csv buffer buffer′ : List ℕ) (r : ℕ) : Type 0 where
   pub out : List ℕ
   pub is : Output s b csv out
-  pub puts : Puts out 0 buffer buffer′ r
+  pub begins : Begins out buffer buffer′ r

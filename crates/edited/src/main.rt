@@ -16,7 +16,8 @@ ghost use mathlib.Core.Path.{_≡_};
 ghost use lib.ListN.{length};
 ghost use Rattle.io.specs.Counts.{Counts};
 ghost use Rattle.text.specs.Written.{Puts};
-ghost use Rattle.edited.specs.Output.{refusalIn, editOutput, Prints};
+ghost use Rattle.edited.specs.Output.{editOutput, Prints};
+ghost use Rattle.edited.specs.Refusal.{refusalIn};
 
 const PATTERN: [u8; 11] = *b"pattern.bin";
 

@@ -2,18 +2,17 @@
 use mathlib.Core.List.{List, [], _∷_}
 use mathlib.Core.Logic.{_⊎_, inl, inr}
 use mathlib.Core.Path.{_≡_, refl, sym, ap, _∙_}
-use Prim.Native.Nat.{ℕ, zero, suc, _+_, _≤_, _<_}
+use Prim.Native.Nat.{ℕ, zero, suc, _≤_, _<_}
 use native.Mathlib.Omega.{arith}
-use lib.ListN.{length, take}
-use lib.Seq.{length-take-le}
+use lib.ListN.{length, drop, length-append}
 use Rattle.lyndon.specs.declared.Filled.{Filled}
 use Rattle.lyndon_text.specs.Calls.{ListingWritten}
-use Rattle.refusals.specs.Refusals.{Refusal, firstOf, unlessRefused, rowAfter, maxPattern, patternTooLong, tooShort}
+use Rattle.refusals.specs.Refusals.{firstOf, rowAfter, maxPattern, patternTooLong, tooShort}
 use Rattle.refusals.proofs.First.{First, first-is, too-long, not-long, not-short}
 use Rattle.text.proofs.Lengths.{listing-room}
 use Rattle.text.proofs.Lines.{refusal-room}
-use Rattle.text.proofs.Puts.{puts-length}
-use Rattle.text.specs.Listing.{listingText, refusalText, printed}
+use Rattle.text.proofs.Puts.{puts-begins}
+use Rattle.text.specs.Listing.{listingText, refusalText, printed, Begins}
 use Rattle.text.specs.Written.{Room, Puts}
 use Rattle.words.proofs.Bounded.{le-or-lt}
 use Rattle.listing.specs.Output.{output}
@@ -54,27 +53,19 @@ module _ (s d : List ℕ) {d′ : List ℕ} {r : Filled} (w : ListingWritten s d
   pub line-room : (r .refusal ≡ 0 → ⊥) → Room (refusalText (r .refusal)) 0 d′
   line-room h = omega (arith, refusal-room (r .refusal) (omega (arith, small)), ap length (same-buffer h))
 
-  pub refused-output : (r .refusal ≡ 0 → ⊥) → {d″ : List ℕ} {n : ℕ} → Puts (refusalText (r .refusal)) 0 d′ d″ n → Puts (output s) 0 d d″ n
+  pub refused-output : (r .refusal ≡ 0 → ⊥) → {d″ : List ℕ} {n : ℕ} → Puts (refusalText (r .refusal)) 0 d′ d″ n → Begins (output s) d d″ n
   unfolding output
-  refused-output h p = rw (sym number, printed-refused first (listingText s) (w .refusal) h, ← (same-buffer h)) p
+  refused-output h p = rw (sym number, printed-refused first (listingText s) (w .refusal) h, ← (same-buffer h)) (puts-begins p)
 
-  pub listed-output : r .refusal ≡ 0 → Puts (output s) 0 d d′ (r .count)
+  pub listed-output : r .refusal ≡ 0 → Begins (output s) d d′ (r .count)
   unfolding output
   listed-output e =
       let z : first ≡ 0 = sym (w .refusal) ∙ e in
       record {
-        next = w .count ∙ rw (z, sym number ∙ z) (omega arith);
+        size = w .count ∙ rw (z, sym number ∙ z);
         leaves = w .leaves ∙ rw (z, sym number ∙ z);
       }
 
-output-room : (s : List ℕ) → length (output s) ≤ 77849
-unfolding output
-output-room s = go (le-or-lt (length s) maxPattern)
-  where
-    go : (length s ≤ maxPattern) ⊎ (maxPattern < length s) → length (printed (firstOf (patternTooLong s ∷ [])) (listingText s)) ≤ 77849
-    go (inl h) = rw (first-is (not-long s h First.none)) (listing-room s h)
-    go (inr h) = rw (first-is (too-long s {rs = []} h)) (omega (arith, refusal-room 1 (omega arith)))
-
 -- what is printed lies within the buffer
-pub output-within : (s : List ℕ) {d d′ : List ℕ} {n : ℕ} → Puts (output s) 0 d d′ n → 77849 ≤ length d → n ≤ length d′
-output-within s p h = omega (arith, p .next, output-room s, puts-length p (omega (arith, output-room s)))
+pub output-within : (s : List ℕ) {d d′ : List ℕ} {n : ℕ} → Begins (output s) d d′ n → n ≤ length d′
+output-within s {d} p = omega (arith, p .size, ap length (p .leaves), length-append (output s) (drop (length (output s)) d))

@@ -6,13 +6,13 @@ use lyndon_text::write_listing;
 use text::write_refusal;
 ghost use Prim.Native.Nat.{_≤_};
 ghost use lib.ListN.{length};
-ghost use Rattle.text.specs.Written.{Puts};
+ghost use Rattle.text.specs.Listing.{Begins};
 ghost use Rattle.listing.specs.Output.{output};
 
 // Writes all that is printed for a pattern to the front of a buffer that holds every listing.
 fn write_output(pattern: &[u8], text: &mut [u8]) -> usize
     requires { ⌜ 77849 ≤ length (now text) ⌝ }
-    ensures { λ r. ⌜ Puts (output (now (pattern .entry))) 0 (now (text .entry)) (now (text .exit)) r ⌝ }
+    ensures { λ r. ⌜ Begins (output (now (pattern .entry))) (now (text .entry)) (now (text .exit)) r ⌝ }
 {
     let answer = write_listing(pattern, text);
     if answer.refusal != 0 {

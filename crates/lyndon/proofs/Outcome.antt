@@ -17,7 +17,7 @@ module _ {rs : List Refusal} {out row : List ℕ} {things : ℕ} {r : Filled} wh
       let e = sym (first-is f) in
       record {
         refusal = q .0 ∙ e;
-        count = q .1 ∙ ap (λ n. unlessRefused n things) e;
+        count = q .1 ∙ ap (λ n. unlessRefused n things 0) e;
         leaves = ap (λ n. rowAfter n out row) e;
       }
 
@@ -26,6 +26,6 @@ module _ {rs : List Refusal} {out row : List ℕ} {things : ℕ} {r : Filled} wh
       let e = sym (first-is f) in
       record {
         refusal = p ∙ e;
-        count = q ∙ ap (λ n. unlessRefused n things) e;
+        count = q ∙ ap (λ n. unlessRefused n things 0) e;
         leaves = w ∙ ap (λ n. rowAfter n out row) e;
       }

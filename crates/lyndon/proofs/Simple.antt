@@ -27,7 +27,7 @@ use Rattle.words.specs.Order.{Lyndon, lyndon}
 use Rattle.words.specs.Rotation.{leastRotation}
 use Rattle.words.specs.Tables.{LyndonAt, lyndonStarts, longest, longestStarts, longestWord}
 use Rattle.words.specs.Tree.{treeNodes, nodeNumbers}
-use Rattle.lyndon.specs.Calls.{Fills, StartsListed, partUnless, wordPart, yesUnless, LyndonTold, RotationFound, TreeListed}
+use Rattle.lyndon.specs.Calls.{Fills, StartsListed, wordPart, LyndonTold, RotationFound, TreeListed}
 use Rattle.lyndon.specs.declared.Filled.{Filled}
 use Rattle.lyndon.specs.declared.Verdict.{Verdict}
 use Rattle.lyndon.proofs.Outcome.{Refused, fills-refused, fills-accepted}
@@ -53,8 +53,8 @@ module _ (s row : List ℕ) where
       let e = sym (first-is (too-long s {rs = tooShort (length (longestStarts s)) (length row) ∷ []} h)) in
       record {
         refusal = e;
-        length = ap (λ n. unlessRefused n (longest s)) e;
-        count = ap (λ n. unlessRefused n (length (longestStarts s))) e;
+        length = ap (λ n. unlessRefused n (longest s) 0) e;
+        count = ap (λ n. unlessRefused n (length (longestStarts s)) 0) e;
         leaves = ap (λ n. rowAfter n (longestStarts s) row) e;
       }
 
@@ -65,8 +65,8 @@ module _ (s row : List ℕ) where
       let e = sym (first-is f) in
       record {
         refusal = e;
-        length = ap (λ n. unlessRefused n (longest s)) e;
-        count = ap (λ n. unlessRefused n (length (longestStarts s))) e;
+        length = ap (λ n. unlessRefused n (longest s) 0) e;
+        count = ap (λ n. unlessRefused n (length (longestStarts s)) 0) e;
         leaves = ap (λ n. rowAfter n (longestStarts s) row) e;
       }
 
@@ -78,20 +78,20 @@ module _ (s row : List ℕ) where
       let e = sym (first-is f) in
       record {
         refusal = e;
-        length = p ∙ ap (λ n. unlessRefused n (longest s)) e;
-        count = q ∙ ap (λ n. unlessRefused n (length (longestStarts s))) e;
+        length = p ∙ ap (λ n. unlessRefused n (longest s) 0) e;
+        count = q ∙ ap (λ n. unlessRefused n (length (longestStarts s)) 0) e;
         leaves = w ∙ ap (λ n. rowAfter n (longestStarts s) row) e;
       }
 
 -- longest_word
 module _ (s : List ℕ) where
   pub word-long : 4096 < length s → [] ≡ wordPart s
-  word-long h = ap (λ n. partUnless n (take (longestWord s .1) (drop (longestWord s .0) s))) (sym (first-is (too-long s {rs = []} h)))
+  word-long h = ap (λ n. unlessRefused n (take (longestWord s .1) (drop (longestWord s .0) s)) []) (sym (first-is (too-long s {rs = []} h)))
 
   pub word-part : length s ≤ 4096 → (a l : ℕ) → a ≡ longestWord s .0 → l ≡ longest s → take l (drop a s) ≡ wordPart s
   unfolding longestWord
   word-part h a l p q =
-      rw (p, q) (ap (λ n. partUnless n (take (longestWord s .1) (drop (longestWord s .0) s))) (sym (first-is (not-long s {rs = []} h none))))
+      rw (p, q) (ap (λ n. unlessRefused n (take (longestWord s .1) (drop (longestWord s .0) s)) []) (sym (first-is (not-long s {rs = []} h none))))
 
 -- the word lies within the pattern
 pub word-within : (s : List ℕ) → longestWord s .0 + longest s ≤ length s
@@ -104,15 +104,15 @@ module _ (w : List ℕ) where
   pub told-long : 4096 < length w → LyndonTold w (record { refusal = 1; yes = false })
   told-long h =
       let e = sym (first-is (too-long w {rs = []} h)) in
-      record { refusal = e; yes = ap (λ n. yesUnless n (lyndon w)) e }
+      record { refusal = e; yes = ap (λ n. unlessRefused n (lyndon w) false) e }
 
   pub told : length w ≤ 4096 → (b : Bool) → b ≡ lyndon w → LyndonTold w (record { refusal = 0; yes = b })
   told h b q =
       let e = sym (first-is (not-long w {rs = []} h none)) in
-      record { refusal = e; yes = q ∙ ap (λ n. yesUnless n (lyndon w)) e }
+      record { refusal = e; yes = q ∙ ap (λ n. unlessRefused n (lyndon w) false) e }
 
   pub told-yes : {v : Verdict} → length w ≤ 4096 → LyndonTold w v → v .yes ≡ lyndon w
-  told-yes h t = t .yes ∙ ap (λ n. yesUnless n (lyndon w)) (first-is (not-long w {rs = []} h none))
+  told-yes h t = t .yes ∙ ap (λ n. unlessRefused n (lyndon w) false) (first-is (not-long w {rs = []} h none))
 
   pub empty-not-lyndon : length w ≡ 0 → false ≡ lyndon w
   empty-not-lyndon e = sym (false-lyndon w (λ h. omega (arith, h .some)))
@@ -143,12 +143,12 @@ module _ (s : List ℕ) where
   pub rotation-long : 4096 < length s → RotationFound s (record { refusal = 1; start = 0 })
   rotation-long h =
       let e = sym (first-is (too-long s {rs = []} h)) in
-      record { refusal = e; start = ap (λ n. unlessRefused n (leastRotation s)) e }
+      record { refusal = e; start = ap (λ n. unlessRefused n (leastRotation s) 0) e }
 
   pub rotation-found : length s ≤ 4096 → (k : ℕ) → k ≡ leastRotation s → RotationFound s (record { refusal = 0; start = k })
   rotation-found h k q =
       let e = sym (first-is (not-long s {rs = []} h none)) in
-      record { refusal = e; start = q ∙ ap (λ n. unlessRefused n (leastRotation s)) e }
+      record { refusal = e; start = q ∙ ap (λ n. unlessRefused n (leastRotation s) 0) e }
 
 -- the pattern stands twice in the buffer's front
 module _ (s buffer : List ℕ) (last : List ℕ) (w : last ≡ written (s ++ s) buffer) where

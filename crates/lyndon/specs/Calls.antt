@@ -1,8 +1,8 @@
 -- What each call on one pattern answers and leaves in the lent row, for every input: its refusals in their order, then its result.
-use mathlib.Core.Bool.{Bool, false}
+use mathlib.Core.Bool.{false}
 use mathlib.Core.List.{List, [], _∷_}
 use mathlib.Core.Path.{_≡_}
-use Prim.Native.Nat.{ℕ, zero, suc}
+use Prim.Native.Nat.{ℕ}
 use lib.ListN.{length, take, drop}
 use Rattle.rows.specs.Row.{written}
 use Rattle.words.specs.Order.{lyndon}
@@ -19,7 +19,7 @@ use Rattle.lyndon.specs.declared.Position.{Position}
 -- A call with these refusals that writes `out`, which holds so many things, to a row: the answer, and the row afterwards.
 pub record Fills (refusals : List Refusal) (out : List ℕ) (things : ℕ) (row row′ : List ℕ) (r : Filled) : Type 0 where
   pub refusal : r .refusal ≡ firstOf refusals
-  pub count : r .count ≡ unlessRefused (firstOf refusals) things
+  pub count : r .count ≡ unlessRefused (firstOf refusals) things 0
   pub leaves : row′ ≡ rowAfter (firstOf refusals) out row
 
 -- factor. And in the words of demand 2: of every split with the three qualities, the row holds the groups.
@@ -41,31 +41,23 @@ startsRefusals s row = patternTooLong s ∷ tooShort (length (longestStarts s)) 
 
 pub record StartsListed (s row row′ : List ℕ) (r : Starts) : Type 0 where
   pub refusal : r .refusal ≡ firstOf (startsRefusals s row)
-  pub length : r .length ≡ unlessRefused (firstOf (startsRefusals s row)) (longest s)
-  pub count : r .count ≡ unlessRefused (firstOf (startsRefusals s row)) (lib.ListN.length (longestStarts s))
+  pub length : r .length ≡ unlessRefused (firstOf (startsRefusals s row)) (longest s) 0
+  pub count : r .count ≡ unlessRefused (firstOf (startsRefusals s row)) (lib.ListN.length (longestStarts s)) 0
   pub leaves : row′ ≡ rowAfter (firstOf (startsRefusals s row)) (longestStarts s) row
 
 -- longest_word: the part of the pattern, the empty one where it is refused
-abbrev pub partUnless : ℕ → List ℕ → List ℕ
-partUnless zero part = part
-partUnless (suc k) part = []
-
 abbrev pub wordPart : List ℕ → List ℕ
-wordPart s = partUnless (firstOf (patternTooLong s ∷ [])) (take (longestWord s .1) (drop (longestWord s .0) s))
+wordPart s = unlessRefused (firstOf (patternTooLong s ∷ [])) (take (longestWord s .1) (drop (longestWord s .0) s)) []
 
 -- is_lyndon
-abbrev pub yesUnless : ℕ → Bool → Bool
-yesUnless zero b = b
-yesUnless (suc k) b = false
-
 pub record LyndonTold (w : List ℕ) (r : Verdict) : Type 0 where
   pub refusal : r .refusal ≡ firstOf (patternTooLong w ∷ [])
-  pub yes : r .yes ≡ yesUnless (firstOf (patternTooLong w ∷ [])) (lyndon w)
+  pub yes : r .yes ≡ unlessRefused (firstOf (patternTooLong w ∷ [])) (lyndon w) false
 
 -- least_rotation
 pub record RotationFound (s : List ℕ) (r : Position) : Type 0 where
   pub refusal : r .refusal ≡ firstOf (patternTooLong s ∷ [])
-  pub start : r .start ≡ unlessRefused (firstOf (patternTooLong s ∷ [])) (leastRotation s)
+  pub start : r .start ≡ unlessRefused (firstOf (patternTooLong s ∷ [])) (leastRotation s) 0
 
 -- lyndon_tree
 abbrev pub TreeListed : List ℕ → List ℕ → List ℕ → Filled → Type 0

@@ -1,13 +1,13 @@
 -- A part is copied over the front of a row, symbol by symbol, or not at all where the row is shorter.
-use mathlib.Core.List.{List, [], _∷_}
-use mathlib.Core.Path.{_≡_, refl, sym, ap, _∙_}
+use mathlib.Core.List.{List, _∷_}
+use mathlib.Core.Path.{_≡_, refl}
 use Prim.Native.Nat.{ℕ, _+_, _≤_, _<_}
 use native.Mathlib.Numerals.{add-one}
 use native.Mathlib.Omega.{arith}
 use lib.ListN.{length, drop, getD, set, drop-of-length-le}
 use lib.Seq.{drop-cons}
-use Rattle.refusals.proofs.First.{First, none, first-is, too-short, not-short}
-use Rattle.refusals.specs.Refusals.{unlessRefused, rowAfter, tooShort}
+use Rattle.lyndon.proofs.Outcome.{fills-refused, fills-accepted}
+use Rattle.refusals.proofs.First.{none, too-short, not-short}
 use Rattle.rows.proofs.Wrote.{Wrote, wrote-none, wrote-one, wrote-all, wrote-length}
 use Rattle.lyndon_c.specs.Copied.{Copied}
 
@@ -27,22 +27,9 @@ module _ (part d : List ℕ) where
       let next = wrote-one (rw e at (w .wrote)) in
       record { upto = omega arith; room = w .room; long = wrote-length next; wrote = next }
 
-  pub copied-all : {row : List ℕ} {k : ℕ} → Copying part d row k → length part ≤ k → Copied part d row 0 (length part)
-  copied-all {row} {k} w h =
-      let f : First (tooShort (length part) (length d) ∷ []) 0 = not-short (length part) (length d) (w .room) none in
-      let e = sym (first-is f) in
-      record {
-        refuses = e;
-        tells = ap (λ n. unlessRefused n (length part)) e;
-        leaves = wrote-all (rw (drop-of-length-le part h) at (w .wrote)) ∙ ap (λ n. rowAfter n part d) e;
-      }
+  pub copied-all : {row : List ℕ} {k : ℕ} → Copying part d row k → length part ≤ k → Copied part d row (record { refusal = 0; count = length part })
+  copied-all w h =
+      fills-accepted (not-short (length part) (length d) (w .room) none) refl refl (wrote-all (rw (drop-of-length-le part h) at (w .wrote)))
 
-  pub copied-none : length d < length part → Copied part d d 8 0
-  copied-none h =
-      let f : First (tooShort (length part) (length d) ∷ []) 8 = too-short (length part) (length d) h in
-      let e = sym (first-is f) in
-      record {
-        refuses = e;
-        tells = ap (λ n. unlessRefused n (length part)) e;
-        leaves = ap (λ n. rowAfter n part d) e;
-      }
+  pub copied-none : length d < length part → Copied part d d (record { refusal = 8; count = 0 })
+  copied-none h = fills-refused (too-short (length part) (length d) h) (refl, refl)

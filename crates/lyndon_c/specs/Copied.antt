@@ -1,11 +1,10 @@
 -- What a part that C is to get leaves in a lent buffer: the part in front, or refusal 8 and the buffer as it was.
 use mathlib.Core.List.{List, [], _∷_}
-use mathlib.Core.Path.{_≡_}
 use Prim.Native.Nat.{ℕ}
 use lib.ListN.{length}
-use Rattle.refusals.specs.Refusals.{firstOf, unlessRefused, rowAfter, tooShort}
+use Rattle.lyndon.specs.Calls.{Fills}
+use Rattle.lyndon.specs.declared.Filled.{Filled}
+use Rattle.refusals.specs.Refusals.{tooShort}
 
-pub record Copied (part row row′ : List ℕ) (refusal size : ℕ) : Type 0 where
-  pub refuses : refusal ≡ firstOf (tooShort (length part) (length row) ∷ [])
-  pub tells : size ≡ unlessRefused (firstOf (tooShort (length part) (length row) ∷ [])) (length part)
-  pub leaves : row′ ≡ rowAfter (firstOf (tooShort (length part) (length row) ∷ [])) part row
+abbrev pub Copied : List ℕ → List ℕ → List ℕ → Filled → Type 0
+Copied part row row′ r = Fills (tooShort (length part) (length row) ∷ []) part (length part) row row′ r

@@ -17,8 +17,7 @@ ghost use Rattle.lyndon_c.specs.Copied.{Copied};
 
 #[no_mangle]
 pub extern "C" fn lyndon_factor(pattern: &[u8], groups: &mut [u16], count: &mut usize) -> u8
-    ensures { λ r. ⌜ Factored (now (pattern .entry)) (now (groups .entry)) (now (groups .exit))
-        (record { refusal = r; count = now (count .exit) }) ⌝ }
+    ensures { λ r. ⌜ Factored (now (pattern .entry)) (now (groups .entry)) (now (groups .exit)) (record { refusal = r; count = now (count .exit) }) ⌝ }
 {
     let answer = factor(pattern, groups);
     *count = answer.count;
@@ -27,8 +26,7 @@ pub extern "C" fn lyndon_factor(pattern: &[u8], groups: &mut [u16], count: &mut 
 
 #[no_mangle]
 pub extern "C" fn lyndon_array(pattern: &[u8], table: &mut [u16], count: &mut usize) -> u8
-    ensures { λ r. ⌜ ArrayMade (now (pattern .entry)) (now (table .entry)) (now (table .exit))
-        (record { refusal = r; count = now (count .exit) }) ⌝ }
+    ensures { λ r. ⌜ ArrayMade (now (pattern .entry)) (now (table .entry)) (now (table .exit)) (record { refusal = r; count = now (count .exit) }) ⌝ }
 {
     let answer = lyndon::lyndon_array(pattern, table);
     *count = answer.count;
@@ -37,8 +35,7 @@ pub extern "C" fn lyndon_array(pattern: &[u8], table: &mut [u16], count: &mut us
 
 #[no_mangle]
 pub extern "C" fn lyndon_last_factors(pattern: &[u8], table: &mut [u16], count: &mut usize) -> u8
-    ensures { λ r. ⌜ LastFactorsMade (now (pattern .entry)) (now (table .entry)) (now (table .exit))
-        (record { refusal = r; count = now (count .exit) }) ⌝ }
+    ensures { λ r. ⌜ LastFactorsMade (now (pattern .entry)) (now (table .entry)) (now (table .exit)) (record { refusal = r; count = now (count .exit) }) ⌝ }
 {
     let answer = last_factors(pattern, table);
     *count = answer.count;
@@ -52,8 +49,7 @@ pub extern "C" fn lyndon_longest_words(
     size: &mut usize,
     count: &mut usize,
 ) -> u8
-    ensures { λ r. ⌜ StartsListed (now (pattern .entry)) (now (starts .entry)) (now (starts .exit))
-        (record { refusal = r; length = now (size .exit); count = now (count .exit) }) ⌝ }
+    ensures { λ r. ⌜ StartsListed (now (pattern .entry)) (now (starts .entry)) (now (starts .exit)) (record { refusal = r; length = now (size .exit); count = now (count .exit) }) ⌝ }
 {
     let answer = longest_words(pattern, starts);
     *size = answer.length;
@@ -63,7 +59,7 @@ pub extern "C" fn lyndon_longest_words(
 
 // Copies a part to the front of a buffer, and answers 8 where the buffer is shorter.
 fn copy(part: &[u8], buffer: &mut [u8], size: &mut usize) -> u8
-    ensures { λ r. ⌜ Copied (now (part .entry)) (now (buffer .entry)) (now (buffer .exit)) r (now (size .exit)) ⌝ }
+    ensures { λ r. ⌜ Copied (now (part .entry)) (now (buffer .entry)) (now (buffer .exit)) (record { refusal = r; count = now (size .exit) }) ⌝ }
 {
     if buffer.len() < part.len() {
         *size = 0;
@@ -81,7 +77,7 @@ fn copy(part: &[u8], buffer: &mut [u8], size: &mut usize) -> u8
 // The part is copied to a buffer of the caller's, since a reference is no answer for C.
 #[no_mangle]
 pub extern "C" fn lyndon_longest_word(pattern: &[u8], word: &mut [u8], size: &mut usize) -> u8
-    ensures { λ r. ⌜ Copied (wordPart (now (pattern .entry))) (now (word .entry)) (now (word .exit)) r (now (size .exit)) ⌝ }
+    ensures { λ r. ⌜ Copied (wordPart (now (pattern .entry))) (now (word .entry)) (now (word .exit)) (record { refusal = r; count = now (size .exit) }) ⌝ }
 {
     copy(longest_word(pattern), word, size)
 }
@@ -106,8 +102,7 @@ pub extern "C" fn lyndon_least_rotation(pattern: &[u8], start: &mut usize) -> u8
 
 #[no_mangle]
 pub extern "C" fn lyndon_tree(word: &[u8], nodes: &mut [u16], count: &mut usize) -> u8
-    ensures { λ r. ⌜ TreeListed (now (word .entry)) (now (nodes .entry)) (now (nodes .exit))
-        (record { refusal = r; count = now (count .exit) }) ⌝ }
+    ensures { λ r. ⌜ TreeListed (now (word .entry)) (now (nodes .entry)) (now (nodes .exit)) (record { refusal = r; count = now (count .exit) }) ⌝ }
 {
     let answer = lyndon::lyndon_tree(word, nodes);
     *count = answer.count;
@@ -122,8 +117,7 @@ pub extern "C" fn lyndon_factor_prefix(
     end: usize,
     count: &mut usize,
 ) -> u8
-    ensures { λ r. ⌜ PrefixFactored (now (pattern .entry)) (now (table .entry)) end (now (groups .entry)) (now (groups .exit))
-        (record { refusal = r; count = now (count .exit) }) ⌝ }
+    ensures { λ r. ⌜ PrefixFactored (now (pattern .entry)) (now (table .entry)) end (now (groups .entry)) (now (groups .exit)) (record { refusal = r; count = now (count .exit) }) ⌝ }
 {
     let answer = factor_prefix(pattern, table, end, groups);
     *count = answer.count;
@@ -138,8 +132,7 @@ pub extern "C" fn lyndon_factor_suffix(
     start: usize,
     count: &mut usize,
 ) -> u8
-    ensures { λ r. ⌜ SuffixFactored (now (pattern .entry)) (now (table .entry)) start (now (groups .entry)) (now (groups .exit))
-        (record { refusal = r; count = now (count .exit) }) ⌝ }
+    ensures { λ r. ⌜ SuffixFactored (now (pattern .entry)) (now (table .entry)) start (now (groups .entry)) (now (groups .exit)) (record { refusal = r; count = now (count .exit) }) ⌝ }
 {
     let answer = factor_suffix(pattern, table, start, groups);
     *count = answer.count;
@@ -148,8 +141,7 @@ pub extern "C" fn lyndon_factor_suffix(
 
 #[no_mangle]
 pub extern "C" fn lyndon_write_listing(pattern: &[u8], text: &mut [u8], count: &mut usize) -> u8
-    ensures { λ r. ⌜ ListingWritten (now (pattern .entry)) (now (text .entry)) (now (text .exit))
-        (record { refusal = r; count = now (count .exit) }) ⌝ }
+    ensures { λ r. ⌜ ListingWritten (now (pattern .entry)) (now (text .entry)) (now (text .exit)) (record { refusal = r; count = now (count .exit) }) ⌝ }
 {
     let answer = write_listing(pattern, text);
     *count = answer.count;

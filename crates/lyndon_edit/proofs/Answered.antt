@@ -10,7 +10,8 @@ use lib.ListN.{length, take, drop}
 use lib.Seq.{take-append-seam}
 use borrow.Author.Tests.{lt-ltb, le-ltb}
 use Rattle.edit.proofs.Passed.{first-earlier, first-later, passed-shape}
-use Rattle.edit.specs.Core.{editRefusals, roomRefusals, countsOf, answerOf, Fills}
+use Rattle.edit.specs.Core.{editRefusals, countsOf, answerOf}
+use Rattle.edit.specs.Inner.{roomRefusals, FillsNumbers}
 use Rattle.edit.specs.declared.Answer.{Answer}
 use Rattle.edit.specs.declared.Answer.the-variants.{Done}
 use Rattle.edit.specs.declared.Counts.{Counts}
@@ -20,10 +21,11 @@ use Rattle.scan.proofs.Pass.{length-numbers}
 use Rattle.words.proofs.Bounded.{le-or-lt}
 use Rattle.words.proofs.Edit.{demand-three}
 use Rattle.words.specs.Demand.{DemandThree}
-use Rattle.words.specs.Edit.{edited, middleGroups, answer}
+use Rattle.words.specs.Edit.{edited, middleGroups}
+use Rattle.words.proofs.Answer.{answer}
 use Rattle.words.specs.Factors.{Group, groupNumbers}
 use Rattle.words.specs.Tables.{longestStarts}
-use Rattle.lyndon_edit.specs.Calls.{answerIn, numberGroups, numberRefusals, EditsNumbers}
+use Rattle.lyndon_edit.specs.Calls.{answerIn, numberGroups, allRefusals, EditsNumbers}
 
 -- the groups read off a row of numbers
 pub number-groups : (gs : List Group) (rest : List ℕ) → numberGroups (length gs) (groupNumbers gs ++ rest) ≡ gs
@@ -73,21 +75,21 @@ module _ (s array last : List ℕ) (from to : ℕ) (b : List ℕ) where
       go (inr h) = lt-ltb (room / 3) (length gs) h ∙ sym (lt-ltb room (length (groupNumbers gs)) (omega (arith, length-numbers gs)))
 
   pub numbers-answered : (row row′ starts starts′ : List ℕ) (r : Answer)
-      → Fills (editRefusals s array last from to b ++ roomRefusals s from to b (length row / 3) (length starts)) s from to b row row′ starts starts′ r
+      → FillsNumbers (editRefusals s array last from to b ++ roomRefusals s from to b (length row / 3) (length starts)) s from to b row row′ starts starts′ r
       → EditsNumbers s array last from to b row row′ starts starts′ r
   unfolding countsOf
   numbers-answered row row′ starts starts′ r f =
       record { fills = fills; demandThree = demand }
     where
       rs : List Refusal
-      rs = numberRefusals s array last from to b (length row) (length starts)
+      rs = allRefusals s array last from to b (length (groupNumbers (middleGroups s from to b))) (length row) (length starts)
 
       same : editRefusals s array last from to b ++ roomRefusals s from to b (length row / 3) (length starts) ≡ rs
       same =
           ap (λ x. editRefusals s array last from to b ++ (x ∷ tooShort (length (longestStarts (edited s from to b))) (length starts) ∷ []))
           (room-same (length row))
 
-      fills : Fills rs s from to b row row′ starts starts′ r
+      fills : FillsNumbers rs s from to b row row′ starts starts′ r
       fills = rw same at f
 
       demand : (c : Counts) → r ≡ Done c → DemandThree s from to b (answerIn c (numberGroups (c .groups) row′) starts′)

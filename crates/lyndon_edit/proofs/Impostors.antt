@@ -67,7 +67,7 @@ module _ (numbers′ : List ℕ) (records′ : List Group) (starts′ : List ℕ
   answered : (r : Answer) → P5 r → r ≡ done 1 9 1 6 1
   unfolding factors longestAt lyndonArray lastFactor lastFactors lyndonStarts longest longestStarts edited kept keptOf resume middle middleOf middleGroups countsOf
   answered r (inl e) = e .fills .answers
-  answered r (inr e) = e .answers
+  answered r (inr e) = e .fills .answers
 
   pub repeats-the-stored-factors : P5 (done 4 13 0 4 1) → ⊥
   repeats-the-stored-factors e = eqb-false 4 1 refl (ap keptIn (answered (done 4 13 0 4 1) e))
@@ -97,5 +97,5 @@ leaves-the-rows (inl e) =
     let row : _≡_ {A = List ℕ} (0 ∷ 0 ∷ 0 ∷ []) (3 ∷ 6 ∷ 1 ∷ []) = e .fills .middle in
     eqb-false 0 3 refl (ap (λ l. getD l 0 0) row)
 leaves-the-rows (inr e) =
-    let row : _≡_ {A = List Group} (zeros ∷ []) (record { start = 3; length = 6; power = 1 } ∷ []) = e .middle in
+    let row : _≡_ {A = List Group} (zeros ∷ []) (record { start = 3; length = 6; power = 1 } ∷ []) = e .fills .middle in
     eqb-false 0 3 refl (ap (λ l. getD l 0 zeros .start) row)

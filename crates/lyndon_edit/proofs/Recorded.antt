@@ -7,7 +7,8 @@ use native.Mathlib.Omega.{arith}
 use lib.ListN.{length, take, drop, length-append, length-map}
 use lib.Seq.{take-at}
 use borrow.Author.Tests.{lt-ltb}
-use Rattle.edit.specs.Core.{roomRefusals, countsOf, countOf, answerOf, Fills}
+use Rattle.edit.specs.Core.{countsOf, answerOf}
+use Rattle.edit.specs.Inner.{roomRefusals, countOf, FillsNumbers}
 use Rattle.edit.specs.declared.Answer.{Answer}
 use Rattle.edit.specs.declared.Answer.the-variants.{Done}
 use Rattle.edit.specs.declared.Counts.{Counts}
@@ -22,7 +23,7 @@ use Rattle.words.specs.Demand.{DemandThree}
 use Rattle.words.specs.Edit.{edited, middleGroups}
 use Rattle.words.specs.Factors as factors
 use Rattle.words.specs.Tables.{longestStarts}
-use Rattle.lyndon_edit.specs.Calls.{answerIn, groupOf, recordOf, recordsAfter, recordRefusals, EditsRecords}
+use Rattle.lyndon_edit.specs.Calls.{answerIn, groupOf, recordOf, allRefusals, EditsRecords}
 use Rattle.lyndon_edit.proofs.Answered.{done-accepted, later-passed, demand-answered}
 
 -- the records read off the numbers, and the groups read off the records
@@ -43,9 +44,9 @@ room-passed needs room rs e = go (le-or-lt needs room)
     go (inr h) = absurd (omega (arith, first-holds (tooShort needs room) rs (lt-ltb room needs h)))
 
 module _ (s array last : List ℕ) (from to : ℕ) (b : List ℕ) (row : List Group) (ns ns′ starts starts′ : List ℕ) (r : Answer)
-    (f : Fills (recordRefusals s array last from to b (length row) (length starts)) s from to b ns ns′ starts starts′ r) (n : ℕ) (count : n ≡ countOf r) where
+    (f : FillsNumbers (allRefusals s array last from to b (length (middleGroups s from to b)) (length row) (length starts)) s from to b ns ns′ starts starts′ r) (n : ℕ) (count : n ≡ countOf r) where
   abbrev rs : List Refusal
-  rs = recordRefusals s array last from to b (length row) (length starts)
+  rs = allRefusals s array last from to b (length (middleGroups s from to b)) (length row) (length starts)
 
   abbrev gs : List factors.Group
   gs = middleGroups s from to b
@@ -86,11 +87,11 @@ module _ (s array last : List ℕ) (from to : ℕ) (b : List ℕ) (row : List Gr
 
   module _ (row′ : List Group) (stored : row′ ≡ filled n ns′ row) where
     -- the row that is left
-    stored-after : {k : ℕ} → firstOf rs ≡ k → row′ ≡ recordsAfter k (map recordOf gs) row
+    stored-after : {k : ℕ} → firstOf rs ≡ k → row′ ≡ rowAfter k (map recordOf gs) row
     unfolding filled
     stored-after {k} e = go k e
       where
-        go : (k : ℕ) → firstOf rs ≡ k → row′ ≡ recordsAfter k (map recordOf gs) row
+        go : (k : ℕ) → firstOf rs ≡ k → row′ ≡ rowAfter k (map recordOf gs) row
         go zero q =
             let a : groupsOf n ns′ ≡ map recordOf gs =
             ap (λ m. groupsOf m ns′) (all-counted q) ∙ ap (groupsOf (length gs)) (written-numbers q) ∙ records-of gs (drop (length (factors.groupNumbers gs)) ns) in
@@ -99,7 +100,7 @@ module _ (s array last : List ℕ) (from to : ℕ) (b : List ℕ) (row : List Gr
 
     pub records-answered : EditsRecords s array last from to b row row′ starts starts′ r
     unfolding countsOf
-    records-answered = record { answers = f .answers; middle = stored-after refl; places = f .places; demandThree = demand }
+    records-answered = record { fills = record { answers = f .answers; middle = stored-after refl; places = f .places }; demandThree = demand }
       where
         demand : (c : Counts) → r ≡ Done c → DemandThree s from to b (answerIn c (map groupOf (take (c .groups) row′)) starts′)
         demand c e =

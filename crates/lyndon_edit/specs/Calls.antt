@@ -3,13 +3,13 @@
 use mathlib.Core.List.{List, [], _∷_, _++_, map}
 use mathlib.Core.Path.{_≡_}
 use Prim.Native.Nat.{ℕ, zero, suc}
-use lib.ListN.{length, take, drop}
-use Rattle.edit.specs.Core.{editRefusals, roomRefusals, countsOf, answerOf, Fills}
+use lib.ListN.{length, take}
+use Rattle.edit.specs.Core.{editRefusals, Fills}
 use Rattle.edit.specs.declared.Answer.{Answer}
 use Rattle.edit.specs.declared.Answer.the-variants.{Done}
 use Rattle.edit.specs.declared.Counts.{Counts}
 use Rattle.records.specs.declared.Group.{Group}
-use Rattle.refusals.specs.Refusals.{Refusal, firstOf, rowAfter, tooShort}
+use Rattle.refusals.specs.Refusals.{Refusal, tooShort}
 use Rattle.words.specs.Demand.{DemandThree}
 use Rattle.words.specs.Edit as words
 use Rattle.words.specs.Factors as factors
@@ -43,30 +43,21 @@ groupOf g = record { start = g .start; size = g .length; power = g .power }
 abbrev pub recordOf : factors.Group → Group
 recordOf g = record { start = g .start; length = g .size; power = g .power }
 
--- A row of records, as `rowAfter` says it of a row of numbers.
-abbrev pub recordsAfter : ℕ → List Group → List Group → List Group
-recordsAfter zero out row = out ++ drop (length out) row
-recordsAfter (suc k) out row = row
+-- All refusals of an edit. The middle groups need so many entries of a row of `room`, and the other row has `starts`.
+abbrev pub allRefusals : List ℕ → List ℕ → List ℕ → ℕ → ℕ → List ℕ → ℕ → ℕ → ℕ → List Refusal
+allRefusals s array last from to b needs room starts =
+    editRefusals s array last from to b ++ (tooShort needs room ∷ tooShort (length (longestStarts (words.edited s from to b))) starts ∷ [])
 
 -- edit_numbers: the middle groups go to a row of numbers, three each.
-abbrev pub numberRefusals : List ℕ → List ℕ → List ℕ → ℕ → ℕ → List ℕ → ℕ → ℕ → List Refusal
-numberRefusals s array last from to b room starts =
-    editRefusals s array last from to b
-    ++ (tooShort (length (factors.groupNumbers (words.middleGroups s from to b))) room
-    ∷ tooShort (length (longestStarts (words.edited s from to b))) starts ∷ [])
-
 pub record EditsNumbers (s array last : List ℕ) (from to : ℕ) (b row row′ starts starts′ : List ℕ) (r : Answer) : Type 0 where
-  pub fills : Fills (numberRefusals s array last from to b (length row) (length starts)) s from to b row row′ starts starts′ r
+  pub fills :
+      Fills (allRefusals s array last from to b (length (factors.groupNumbers (words.middleGroups s from to b))) (length row) (length starts))
+      s from to b (factors.groupNumbers (words.middleGroups s from to b)) row row′ starts starts′ r
   pub demandThree : (c : Counts) → r ≡ Done c → DemandThree s from to b (answerIn c (numberGroups (c .groups) row′) starts′)
 
--- edit: the middle groups go to a row of records.
-abbrev pub recordRefusals : List ℕ → List ℕ → List ℕ → ℕ → ℕ → List ℕ → ℕ → ℕ → List Refusal
-recordRefusals s array last from to b room starts = editRefusals s array last from to b ++ roomRefusals s from to b room starts
-
+-- edit: they go to a row of records.
 pub record EditsRecords (s array last : List ℕ) (from to : ℕ) (b : List ℕ) (row row′ : List Group) (starts starts′ : List ℕ) (r : Answer) : Type 0 where
-  pub answers : r ≡ answerOf (firstOf (recordRefusals s array last from to b (length row) (length starts))) (countsOf s from to b)
-  pub middle :
-      row′ ≡ recordsAfter (firstOf (recordRefusals s array last from to b (length row) (length starts))) (map recordOf (words.middleGroups s from to b)) row
-  pub places :
-      starts′ ≡ rowAfter (firstOf (recordRefusals s array last from to b (length row) (length starts))) (longestStarts (words.edited s from to b)) starts
+  pub fills :
+      Fills (allRefusals s array last from to b (length (words.middleGroups s from to b)) (length row) (length starts))
+      s from to b (map recordOf (words.middleGroups s from to b)) row row′ starts starts′ r
   pub demandThree : (c : Counts) → r ≡ Done c → DemandThree s from to b (answerIn c (map groupOf (take (c .groups) row′)) starts′)

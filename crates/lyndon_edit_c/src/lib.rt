@@ -3,7 +3,8 @@
 use edit::Answer;
 use records::Group;
 ghost use mathlib.Core.Path.{_≡_};
-ghost use Rattle.lyndon_edit_c.specs.Flat.{flatOf, ExportsNumbers, ExportsRecords};
+ghost use Rattle.lyndon_edit.specs.Calls.{EditsNumbers, EditsRecords};
+ghost use Rattle.lyndon_edit_c.specs.Flat.{flatOf, Exports};
 
 // An answer as C takes it: the refusal's number, 0 where there is none, and the five numbers of an accepted edit, all 0 beside a refusal.
 #[repr(C)]
@@ -51,7 +52,7 @@ pub extern "C" fn lyndon_edit(
     middle: &mut [Group],
     starts: &mut [u16],
 ) -> EditAnswer
-    ensures { λ r. ⌜ ExportsRecords (now (pattern .entry)) (now (array .entry)) (now (last .entry)) from to (now (block .entry)) (now (middle .entry)) (now (middle .exit)) (now (starts .entry)) (now (starts .exit)) r ⌝ }
+    ensures { λ r. ⌜ Exports (EditsRecords (now (pattern .entry)) (now (array .entry)) (now (last .entry)) from to (now (block .entry)) (now (middle .entry)) (now (middle .exit)) (now (starts .entry)) (now (starts .exit))) r ⌝ }
 {
     let answer = lyndon_edit::edit(pattern, array, last, from, to, block, middle, starts);
     flatten(answer)
@@ -69,7 +70,7 @@ pub extern "C" fn lyndon_edit_numbers(
     middle: &mut [u16],
     starts: &mut [u16],
 ) -> EditAnswer
-    ensures { λ r. ⌜ ExportsNumbers (now (pattern .entry)) (now (array .entry)) (now (last .entry)) from to (now (block .entry)) (now (middle .entry)) (now (middle .exit)) (now (starts .entry)) (now (starts .exit)) r ⌝ }
+    ensures { λ r. ⌜ Exports (EditsNumbers (now (pattern .entry)) (now (array .entry)) (now (last .entry)) from to (now (block .entry)) (now (middle .entry)) (now (middle .exit)) (now (starts .entry)) (now (starts .exit))) r ⌝ }
 {
     let answer = lyndon_edit::edit_numbers(pattern, array, last, from, to, block, middle, starts);
     flatten(answer)

@@ -26,7 +26,7 @@ module _ (s buffer : List ℕ) {buffer′ : List ℕ} {r : Filled} (w : ListingW
   pub listing-within : r .count ≤ length buffer
   listing-within = go (ltb 4096 (length s)) (ltb (length buffer) (length (listingText s))) refl (w .count)
     where
-      go : (x y : Bool) → ltb (length buffer) (length (listingText s)) ≡ y → r .count ≡ unlessRefused (cond x 1 (cond y 8 0)) (length (listingText s))
+      go : (x y : Bool) → ltb (length buffer) (length (listingText s)) ≡ y → r .count ≡ unlessRefused (cond x 1 (cond y 8 0)) (length (listingText s)) 0
           → r .count ≤ length buffer
       go true true q e = omega arith
       go true false q e = omega arith

@@ -19,14 +19,14 @@ firstOf (r ∷ rs) =
     let later = firstOf rs in
     cond (r .holds) (r .number) later
 
--- What a refusal of this number leaves of a value, and of a row to which a result is to be written; 0 refuses nothing.
-abbrev pub unlessRefused : ℕ → ℕ → ℕ
-unlessRefused zero value = value
-unlessRefused (suc k) value = 0
+-- What a call gives where this number refuses it: 0 refuses nothing and leaves the value, any other gives what stands beside a refusal.
+abbrev pub unlessRefused : {A : Type 0} → ℕ → A → A → A
+unlessRefused zero value beside = value
+unlessRefused (suc k) value beside = beside
 
-abbrev pub rowAfter : ℕ → List ℕ → List ℕ → List ℕ
-rowAfter zero out row = written out row
-rowAfter (suc k) out row = row
+-- A row to which a result is to be written: as it was where the call is refused.
+abbrev pub rowAfter : {A : Type 0} → ℕ → List A → List A → List A
+rowAfter refusal out row = unlessRefused refusal (written out row) row
 
 abbrev pub maxPattern : ℕ
 maxPattern = 4096

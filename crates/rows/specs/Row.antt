@@ -4,7 +4,7 @@ use Prim.Native.Nat.{ℕ}
 use lib.ListN.{length, take, drop}
 
 -- The result, then the row's old entries from there on.
-abbrev pub written : List ℕ → List ℕ → List ℕ
+abbrev pub written : {A : Type 0} → List A → List A → List A
 written out row = out ++ drop (length out) row
 
 -- The same from place i of the row on.

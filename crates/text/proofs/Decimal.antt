@@ -12,7 +12,7 @@ use lib.ListN.{length, take, getD, length-append, List·getD-append}
 use lib.Seq.{take-suc, take-all, length-take-le, getD-take, getD-at}
 use Rattle.words.specs.Bounded.{smallest}
 use Rattle.words.proofs.Bounded.{le-or-lt, le-cases, smallest-le, smallest-passes, smallest-most}
-use Rattle.text.specs.Decimal.{lastDigits, digitCount, decimal, readBehind, read, DecimalText}
+use Rattle.text.specs.Decimal.{lastDigits, digitCount, decimal, readBehind, read}
 
 -- the number of digits
 power-above : (n : ℕ) → n < 10 ^ suc n
@@ -140,6 +140,13 @@ no-leading-zero (suc n) e = absurd (go (digitCount (suc n)) refl)
     go (suc k) q =
         let h = count-holds (suc n) in
         omega (arith, first-digit k (suc n) (count-above (suc n) k (omega arith) q) (rw q at h), rw q at e)
+
+-- The text of a number: digits that read back as it, with no leading zero but in `0` itself.
+pub record DecimalText (n : ℕ) (cs : List ℕ) : Type 0 where
+  pub some : 0 < length cs
+  pub digits : (k : ℕ) → k < length cs → (48 ≤ getD cs k 0) × (getD cs k 0 ≤ 57)
+  pub reads : read cs ≡ n
+  pub leading : getD cs 0 0 ≡ 48 → cs ≡ 48 ∷ []
 
 pub decimal-text : (n : ℕ) → DecimalText n (decimal n)
 unfolding decimal

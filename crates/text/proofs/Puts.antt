@@ -8,6 +8,7 @@ use lib.Seq.{drop-drop, drop-at, length-take-le, set-split, take-set-le}
 use Rattle.rows.specs.Row.{written, writtenAt}
 use Rattle.rows.proofs.Wrote.{Wrote, wrote-all, set-written}
 use Rattle.rows.proofs.Written.{written-append}
+use Rattle.text.specs.Listing.{Begins}
 use Rattle.text.specs.Written.{Room, Puts}
 
 -- the buffer while `out` is put into d from place i on: n is the next place, and `rest` is left
@@ -34,6 +35,10 @@ putting-all {out} {d} {b} {i} {n} h w =
           wrote-all w ∙ append-assoc (take i d) out (drop (length (take i d ++ out)) d)
           ∙ ap (λ u. take i d ++ (out ++ u)) (ap (λ k. drop k d) m ∙ sym (drop-drop (length out) i d));
     }
+
+-- text at the front
+pub puts-begins : {xs d b : List ℕ} {n : ℕ} → Puts xs 0 d b n → Begins xs d b n
+puts-begins p = record { size = omega (arith, p .next); leaves = p .leaves }
 
 -- one part behind another
 pub puts-length : {xs d b : List ℕ} {i n : ℕ} → Puts xs i d b n → Room xs i d → length b ≡ length d

@@ -1,11 +1,9 @@
 -- Characters, numbers in decimal and bytes in hexadecimal, as lists of ASCII codes.
 use mathlib.Core.List.{List, [], _∷_, _++_}
-use mathlib.Core.Path.{_≡_}
 use Prim.Native.Char.{code}
-use Prim.Native.Nat.{ℕ, zero, suc, _+_, _-_, _*_, _/_, _%_, _^_, _≤_, _<_}
+use Prim.Native.Nat.{ℕ, zero, suc, _+_, _-_, _*_, _/_, _%_, _^_}
 use Prim.Native.String.{String, [] as none, _∷_ as _then_}
 use lib.Dec.{ltb}
-use lib.ListN.{length, getD}
 use Rattle.hex.specs.Hex.{pairOf}
 use Rattle.words.specs.Bounded.{smallest}
 
@@ -23,7 +21,7 @@ lastDigits (suc k) n = lastDigits k (n / 10) ++ ((48 + n % 10) ∷ [])
 unfoldable pub digitCount : ℕ → ℕ
 digitCount n = suc (smallest (λ k. ltb n (10 ^ suc k)) n)
 
--- A number in decimal.
+-- A number in decimal. proofs/Decimal proves that it is the one text of digits that reads as n and has no leading zero.
 unfoldable pub decimal : ℕ → List ℕ
 decimal n = lastDigits (digitCount n) n
 
@@ -34,14 +32,6 @@ readBehind n (c ∷ cs) = readBehind (10 * n + (c - 48)) cs
 
 abbrev pub read : List ℕ → ℕ
 read cs = readBehind 0 cs
-
--- The text of a number: digits that read back as it, with no leading zero but in `0` itself.
--- proofs/Decimal proves that `decimal n` is the one text of n.
-pub record DecimalText (n : ℕ) (cs : List ℕ) : Type 0 where
-  pub some : 0 < length cs
-  pub digits : (k : ℕ) → k < length cs → (48 ≤ getD cs k 0) × (getD cs k 0 ≤ 57)
-  pub reads : read cs ≡ n
-  pub leading : getD cs 0 0 ≡ 48 → cs ≡ 48 ∷ []
 
 -- Bytes, two hexadecimal digits each.
 abbrev pub hexadecimal : List ℕ → List ℕ

@@ -1,7 +1,9 @@
 -- The two listings and the refusal line, as CSV by RFC 4180: each line is closed by carriage return and line feed.
 use mathlib.Core.List.{List, [], _∷_, _++_}
+use mathlib.Core.Path.{_≡_}
 use Prim.Native.Nat.{ℕ, zero, suc}
-use lib.ListN.{take, drop}
+use lib.ListN.{length, take, drop}
+use Rattle.rows.specs.Row.{written}
 use Rattle.words.specs.Factors.{factors, Group, groupsFrom}
 use Rattle.words.specs.Tables.{groups}
 use Rattle.words.specs.Edit.{edited, place, kept, resume, middleGroups}
@@ -52,3 +54,8 @@ refusalText number = codes "refused," ++ decimal number ++ lineEnd
 abbrev pub printed : ℕ → List ℕ → List ℕ
 printed zero text = text
 printed (suc number) text = refusalText (suc number)
+
+-- The buffer begins with the text, the rest is as before, and the answer is the text's length.
+pub record Begins (text buffer buffer′ : List ℕ) (r : ℕ) : Type 0 where
+  pub size : r ≡ length text
+  pub leaves : buffer′ ≡ written text buffer

@@ -11,7 +11,8 @@ use lib.ListN.{length, take, drop, length-append, take-append-drop, length-drop,
 use lib.Seq.{take-at, drop-append-seam, drop-append-add, drop-drop, length-take-le}
 use borrow.Author.Tests.{leb-true, le-leb}
 use Rattle.words.specs.Factors.{join, factors, startsFrom, groupsFrom, startAt}
-use Rattle.words.specs.Edit.{edited, place, sameAll, member, keptOf, kept, resume, middleOf, middle, middleGroups, bits, answer}
+use Rattle.words.specs.Edit.{edited, place, sameAll, member, keptOf, kept, resume, middleOf, middle, middleGroups, bits}
+use Rattle.words.proofs.Answer.{answer}
 use Rattle.words.specs.Demand.{Kept, FactorStart, ResumePoint, DemandThree}
 use Rattle.words.proofs.Bounded.{le-or-lt, le-cases, and-true, largest-is, smallest-is}
 use Rattle.words.proofs.Factors.{factors-falling, join-factors}

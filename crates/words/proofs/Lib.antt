@@ -13,6 +13,7 @@ pub mod Stored
 pub mod Rotation
 pub mod RotationGroups
 pub mod Tree
+pub mod Answer
 pub mod EditParts
 pub mod Fresh
 pub mod Edit

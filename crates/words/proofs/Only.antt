@@ -8,7 +8,8 @@ use native.Mathlib.Omega.{arith}
 use lib.ListN.{length, take, drop, getD, length-append}
 use lib.Seq.{take-append-seam, take-at}
 use Rattle.words.specs.Factors.{factors, startAt, groupsFrom}
-use Rattle.words.specs.Edit.{edited, Answer, answer}
+use Rattle.words.specs.Edit.{edited, Answer}
+use Rattle.words.proofs.Answer.{answer}
 use Rattle.words.specs.Demand.{Member, DemandThree}
 use Rattle.words.proofs.Places.{first-member}
 use Rattle.words.proofs.Edit.{append-cancel, demand-three}

@@ -10,7 +10,8 @@ use Rattle.words.specs.Factors.{factors, Group}
 use Rattle.words.specs.Tables.{lyndonArray, lastFactors, longest, longestStarts, longestAt, lastFactor, lyndonStarts, groups}
 use Rattle.words.specs.Rotation.{leastRotation}
 use Rattle.words.specs.Tree.{treeNodes, nodeNumbers, split}
-use Rattle.words.specs.Edit.{answer, edited, kept, keptOf, resume, middle, middleOf, middleGroups, bits}
+use Rattle.words.specs.Edit.{edited, kept, keptOf, resume, middle, middleOf, middleGroups, bits}
+use Rattle.words.proofs.Answer.{answer}
 
 abbrev group : ℕ → ℕ → ℕ → Group
 group i l e = record { start = i; size = l; power = e }

@@ -12,7 +12,8 @@ use Rattle.words.specs.Factors.{Factorisation, factors, Group, groupsFro
 use Rattle.words.specs.Tables.{LyndonAt, longestAt, lyndonArray, lastFactor, lastFactors, longest, longestStarts, longestWord, groups}
 use Rattle.words.specs.Rotation.{rotation, leastRotation}
 use Rattle.words.specs.Tree.{split, treeNodes, Node}
-use Rattle.words.specs.Edit.{Answer, answer, bits}
+use Rattle.words.specs.Edit.{Answer, bits}
+use Rattle.words.proofs.Answer.{answer}
 use Rattle.words.specs.Demand.{Member, DemandTwo, DemandThree}
 use Rattle.words.proofs.Order.{less-true, true-less}
 use Rattle.words.proofs.Lyndon.{lyndon-true, true-lyndon}

@@ -8,7 +8,6 @@ use lib.Dec.{leb, ltb, eqb}
 use Rattle.words.specs.Bounded.{smallest, largest}
 use Rattle.words.specs.Order.{same}
 use Rattle.words.specs.Factors.{factors, startsFrom, startAt, Group, groupsFrom}
-use Rattle.words.specs.Tables.{longest, longestStarts}
 
 -- The edited pattern: the stored one up to `from`, then the block, then the stored one from `to` on.
 unfoldable pub edited : List ℕ → ℕ → ℕ → List ℕ → List ℕ
@@ -80,15 +79,3 @@ pub record Answer : Type 0 where
   pub longest : ℕ
   pub starts : List ℕ
   pub startCount : ℕ
-
-unfoldable pub answer : List ℕ → ℕ → ℕ → List ℕ → Answer
-answer s from to b =
-    record {
-      kept = kept s from to b;
-      resume = resume s from to b;
-      groups = middleGroups s from to b;
-      groupCount = length (middleGroups s from to b);
-      longest = longest (edited s from to b);
-      starts = longestStarts (edited s from to b);
-      startCount = length (longestStarts (edited s from to b));
-    }

@@ -1,6 +1,6 @@
 -- `edit::core` meets its contract: refused by the first of the tests that holds, or filled from the edited pattern.
 use lib.ListN.{length}
-use Rattle.edit.specs.Core.{roomRefusals}
+use Rattle.edit.specs.Inner.{roomRefusals}
 use Rattle.edit.proofs.Passed.{fills-first, fills-later, passed-shape, spliced-within, spliced-long, passed-accepted}
 use borrow.Author.Needs.{needs}
 use native.Mathlib.Omega.{arith}

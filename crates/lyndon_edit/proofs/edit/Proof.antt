@@ -48,8 +48,9 @@ use denote.Exit.{yes}
 use Rattle.records.specs.declared.Group.{Group}
 use Rattle.edit.specs.declared.Answer.{Answer}
 use Rattle.records.specs.Groups.{filled}
-use Rattle.edit.specs.Core.{countOf, Fills}
-use Rattle.lyndon_edit.specs.Calls.{recordRefusals, EditsRecords}
+use Rattle.edit.specs.Inner.{countOf, FillsNumbers}
+use Rattle.words.specs.Edit.{middleGroups}
+use Rattle.lyndon_edit.specs.Calls.{allRefusals, EditsRecords}
 use Rattle.lyndon_edit.proofs.Recorded.{row-fits, numbers-fit, records-answered}
 use Rattle.records.proofs.LocalArray as LA
 use Rattle.records.proofs.Group as T
@@ -131,7 +132,7 @@ module _ {M : Type 1} (𝓤 : URA M) (H : Heap 𝓤) (A : Atoms 𝓤) (W : Given
 
   -- what `core` ensures, of the last lists and the answer
   abbrev CoreSays : List ℕ → List ℕ → Answer → Type 0
-  CoreSays x-numbers′ x-starts′ r = Fills (recordRefusals (x-pattern .now) (x-array .now) (x-last .now) x-from x-to (x-block .now) (length (x-middle .now)) (length (x-starts .now))) (x-pattern .now) x-from x-to (x-block .now) zeros x-numbers′ (x-starts .now) x-starts′ r
+  CoreSays x-numbers′ x-starts′ r = FillsNumbers (allRefusals (x-pattern .now) (x-array .now) (x-last .now) x-from x-to (x-block .now) (length (middleGroups (x-pattern .now) x-from x-to (x-block .now))) (length (x-middle .now)) (length (x-starts .now))) (x-pattern .now) x-from x-to (x-block .now) zeros x-numbers′ (x-starts .now) x-starts′ r
 
   typed : (r : Answer) (w : Val) → Is Ans.the-row r (w ∷ []) → Holds (hasTy Ans′.mir w) × WT w
   typed r w is = EL.lawful Ans.the-type Ans′.the-laws 𝓤 H A W tt .typed r _ is .0

@@ -158,7 +158,7 @@ module _ {M : Type 1} (𝓤 : URA M) (H : Heap 𝓤) (A : Atoms 𝓤) (W : Given
       ∷ ‵ (Flat.the-row .own f (v ∷ [])) ∷ ‵ (finally T.the-row (m .name) m′) ∷ ‵ (finally u16 (t .name) t′) ∷ []) ∵
       suffices ! _ (ends-at 𝓤 H A exported.ended stayed (exported.clauses 𝓤 H A mem run) W ((κs, qs, tt, a, vals), tt) v f
       (tt, (tt, (tt, (tt, (tt, (tt, (m′, (t′, tt)))))))) (tt, (tt, (tt, (tt, (tt, (tt, (m-long, (t-long, tt))))))))) $
-      says ! (record { answer = r; edits = said; says = flat }) $ frame ! $
+      says ! (record { answer = r; meets = said; says = flat }) $ frame ! $
       nothing ! $ move ! (7 ∷ 0 ∷ []) $ fjoin ! $ move ! (6 ∷ 0 ∷ []) $ fjoin ! $ move ! (4 ∷ 0 ∷ []) $ fjoin ! $
       owned ! usize (Is usize) (uint-makes 𝓤 H A W w64) hi _ (refl, hi-fits) $ fjoin ! $
       owned ! usize (Is usize) (uint-makes 𝓤 H A W w64) lo _ (refl, lo-fits) $ fjoin ! $ move ! (3 ∷ 0 ∷ []) $ fjoin ! $ move ! (2 ∷ 0 ∷ []) $
