@@ -1,9 +1,9 @@
 // The edited listing, written to a lent buffer from the answer to the edit: kept factors, middle and resumed factors, each part grouped on
 // its own. Kept and resumed groups are read off the stored pattern's Lyndon array, those of the middle off the row that the edit filled.
 // That the buffer is long enough is the caller's concern.
-use chains::group_at;
 use cuts::splice;
 use edit::Counts;
+use suffix_chain::group_at;
 use text::write_header;
 use text::write_line;
 ghost use Prim.Native.Nat.{_≤_};

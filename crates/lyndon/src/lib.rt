@@ -1,22 +1,22 @@
 // The public library on one pattern: factors, both tables, longest words, least rotation, tree, and the factors of prefixes and suffixes.
 // Each call tests its refusals in number order and then calls the crate that does the work; none of them requires anything.
-use chains::count_prefix;
-use chains::count_suffix;
-use chains::write_prefix;
-use chains::write_suffix;
 use factoring::count_groups;
 use factoring::write_groups;
 use longest::measure;
 use longest::write_starts;
+use prefix_chain::count_prefix;
+use prefix_chain::write_prefix;
+use prefix_table::is_last_factors;
+use prefix_table::make_last_factors;
+use reach_table::is_lyndon_array;
+use reach_table::make_lyndon_array;
 use refusals::MAX_PATTERN;
 use refusals::MAX_TREE;
 use rotation::double;
 use rotation::least_start;
 use scan::next_group;
-use tables::is_last_factors;
-use tables::is_lyndon_array;
-use tables::make_last_factors;
-use tables::make_lyndon_array;
+use suffix_chain::count_suffix;
+use suffix_chain::write_suffix;
 use tree::write_nodes;
 ghost use mathlib.Core.Path.{_≡_};
 ghost use Rattle.lyndon.specs.Calls.{Factored, ArrayMade, LastFactorsMade, StartsListed, wordPart, LyndonTold, RotationFound, TreeListed, PrefixFactored, SuffixFactored};

@@ -1,8 +1,8 @@
 -- One turn of a pass over the groups of a pattern: what is counted or written, and what is left.
 use mathlib.Core.List.{List, [], _∷_}
 use mathlib.Core.Path.{_≡_, refl, ap}
-use Prim.Native.Nat.{ℕ, _+_, _*_, _≤_}
-use native.Mathlib.Nat.{mul-le-mul-left, mul-le-mul-right}
+use Prim.Native.Nat.{ℕ, _+_, _*_, _≤_, _<_}
+use native.Mathlib.Nat.{mul-le-mul-left, mul-le-mul-right, le-mul-of-pos-right}
 use native.Mathlib.Omega.{arith}
 use lib.ListN.{length, set}
 use Rattle.words.specs.Factors.{Group, groupNumbers}
@@ -35,6 +35,14 @@ module _ {s : List ℕ} {i l e : ℕ} (g : NextGroup s i l e) where
 
   pub group-room : {out d row : List ℕ} {at : ℕ} → Wrote out d row at (groupNumbers (suffixGroups s i)) → at + 3 ≤ length row
   group-room w = omega (arith, wrote-room w, ap length (ap groupNumbers (g .group)))
+
+-- the stretch of a group is at least its factor and its power
+pub record Stretches (l e : ℕ) : Type 0 where
+  pub size : l ≤ e * l
+  pub power : e ≤ e * l
+
+pub stretches : {l e : ℕ} → 0 < l → 0 < e → Stretches l e
+stretches {l} {e} h k = record { size = omega (arith, mul-le-mul-right {m = 1} {n = e} l k); power = le-mul-of-pos-right e h }
 
 pub length-numbers : (gs : List Group) → length (groupNumbers gs) ≡ 3 * length gs
 length-numbers [] = refl

@@ -9,8 +9,8 @@ use Rattle.edit.proofs.refusal.Statement.{statement}
 use Rattle.edit.proofs.refusal.Tie as tie
 use Rattle.edit.proofs.refusal.Reads as reads
 use Rattle.edit.proofs.refusal.Lts as lts
-use Rattle.tables.proofs.is_last_factors.Reads as is-last-factors-reads
-use Rattle.tables.proofs.is_lyndon_array.Reads as is-lyndon-array-reads
+use Rattle.prefix_table.proofs.is_last_factors.Reads as is-last-factors-reads
+use Rattle.reach_table.proofs.is_lyndon_array.Reads as is-lyndon-array-reads
 
 returns : tie.Need-returns
 returns c =

@@ -17,7 +17,7 @@ use Rattle.edited_text.proofs.write_stored.Statement.{statement}
 use Rattle.edited_text.proofs.write_stored.Tie as tie
 use Rattle.edited_text.proofs.write_stored.Reads as reads
 use Rattle.edited_text.proofs.write_stored.Lts as lts
-use Rattle.chains.proofs.group_at.Reads as group-at-reads
+use Rattle.suffix_chain.proofs.group_at.Reads as group-at-reads
 use Rattle.text.proofs.write_line.Reads as write-line-reads
 
 abbrev Inv-loop : tie.InvT-loop

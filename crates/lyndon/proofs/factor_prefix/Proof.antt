@@ -12,10 +12,10 @@ use Rattle.lyndon.proofs.factor_prefix.Statement.{statement}
 use Rattle.lyndon.proofs.factor_prefix.Tie as tie
 use Rattle.lyndon.proofs.factor_prefix.Reads as reads
 use Rattle.lyndon.proofs.factor_prefix.Lts as lts
-use Rattle.chains.proofs.count_prefix.Reads as count-prefix-reads
-use Rattle.chains.proofs.write_prefix.Reads as write-prefix-reads
+use Rattle.prefix_chain.proofs.count_prefix.Reads as count-prefix-reads
+use Rattle.prefix_chain.proofs.write_prefix.Reads as write-prefix-reads
 use Rattle.lyndon.proofs.refused.Reads as refused-reads
-use Rattle.tables.proofs.is_last_factors.Reads as is-last-factors-reads
+use Rattle.prefix_table.proofs.is_last_factors.Reads as is-last-factors-reads
 
 refused-requires : tie.Need-refused-requires
 refused-requires c κs = search needs

@@ -12,10 +12,10 @@ use Rattle.lyndon.proofs.factor_suffix.Statement.{statement}
 use Rattle.lyndon.proofs.factor_suffix.Tie as tie
 use Rattle.lyndon.proofs.factor_suffix.Reads as reads
 use Rattle.lyndon.proofs.factor_suffix.Lts as lts
-use Rattle.chains.proofs.count_suffix.Reads as count-suffix-reads
-use Rattle.chains.proofs.write_suffix.Reads as write-suffix-reads
+use Rattle.suffix_chain.proofs.count_suffix.Reads as count-suffix-reads
+use Rattle.suffix_chain.proofs.write_suffix.Reads as write-suffix-reads
 use Rattle.lyndon.proofs.refused.Reads as refused-reads
-use Rattle.tables.proofs.is_lyndon_array.Reads as is-lyndon-array-reads
+use Rattle.reach_table.proofs.is_lyndon_array.Reads as is-lyndon-array-reads
 
 refused-requires : tie.Need-refused-requires
 refused-requires c κs = search needs

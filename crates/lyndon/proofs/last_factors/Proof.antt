@@ -10,7 +10,7 @@ use Rattle.lyndon.proofs.last_factors.Tie as tie
 use Rattle.lyndon.proofs.last_factors.Reads as reads
 use Rattle.lyndon.proofs.last_factors.Lts as lts
 use Rattle.lyndon.proofs.refused.Reads as refused-reads
-use Rattle.tables.proofs.make_last_factors.Reads as make-last-factors-reads
+use Rattle.prefix_table.proofs.make_last_factors.Reads as make-last-factors-reads
 
 refused-requires : tie.Need-refused-requires
 refused-requires c κs = search needs

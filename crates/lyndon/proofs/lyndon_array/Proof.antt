@@ -10,7 +10,7 @@ use Rattle.lyndon.proofs.lyndon_array.Tie as tie
 use Rattle.lyndon.proofs.lyndon_array.Reads as reads
 use Rattle.lyndon.proofs.lyndon_array.Lts as lts
 use Rattle.lyndon.proofs.refused.Reads as refused-reads
-use Rattle.tables.proofs.make_lyndon_array.Reads as make-lyndon-array-reads
+use Rattle.reach_table.proofs.make_lyndon_array.Reads as make-lyndon-array-reads
 
 refused-requires : tie.Need-refused-requires
 refused-requires c κs = search needs

@@ -1,0 +1,3 @@
+pub mod Before
+pub mod Parted
+pub mod TurnBack

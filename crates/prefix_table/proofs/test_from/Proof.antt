@@ -1,0 +1,180 @@
+-- `prefix_table::test_from` meets its contract: the loop keeps the state of Duval's scan and that the entries up to `end` are right.
+use mathlib.Core.Logic.{⊎-elim}
+use Prim.Native.Nat.{_-_}
+use lib.ListN.{length}
+use Rattle.scan.proofs.Next.{stop-smaller, stop-end}
+use Rattle.prefix_table.proofs.Start.{start-below}
+use Rattle.prefix_table.proofs.Last.{
+  Testing,
+  testing-first,
+  testing-start,
+  testing-up,
+  testing-up-wrong,
+  testing-same,
+  testing-same-wrong,
+  tested-from,
+  rest-fits,
+}
+use borrow.Author.Needs.{needs}
+use native.Mathlib.Omega.{arith}
+use Rattle.prefix_table.proofs.test_from.Statement.{statement}
+use Rattle.prefix_table.proofs.test_from.Tie as tie
+use Rattle.prefix_table.proofs.test_from.Reads as reads
+use Rattle.prefix_table.proofs.test_from.Lts as lts
+
+abbrev Inv-loop : tie.InvT-loop
+Inv-loop s table i n size₀ end₀ size end = Testing s table i end size
+
+abbrev μ-loop : tie.MeasureT-loop
+μ-loop s table i n size₀ end₀ size end = length s - end
+
+mul-if1 : tie.Need-mul-if1 Inv-loop μ-loop
+mul-if1 c = omega (arith, start-below (c .pre .0))
+
+shared-slice-read-if1 : tie.Need-shared-slice-read-if1 Inv-loop μ-loop
+shared-slice-read-if1 c = omega (arith, start-below (c .before .pre .0))
+
+returns : tie.Need-returns Inv-loop μ-loop
+returns c =
+    let b = c .before .before in
+    testing-first (b .pre .0) (b .args .table .now) (λ e. omega (arith, e))
+
+add-end : tie.Need-add-end Inv-loop μ-loop
+add-end c = omega (arith, start-below (c .before .before .pre .0))
+
+loop-holds : tie.Need-loop-holds Inv-loop μ-loop
+loop-holds c =
+    let b = c .before .before in
+    testing-start (b .pre .0) (b .args .table .now) (omega arith)
+
+sub-old : tie.Need-sub-old Inv-loop μ-loop
+sub-old c = search needs
+
+shared-slice-read-old : tie.Need-shared-slice-read-old Inv-loop μ-loop
+shared-slice-read-old c = search needs
+
+shared-slice-read-new : tie.Need-shared-slice-read-new Inv-loop μ-loop
+shared-slice-read-new c = search needs
+
+sub-result : tie.Need-sub-result Inv-loop μ-loop
+sub-result c = search needs
+
+rem-result : tie.Need-rem-result Inv-loop μ-loop
+rem-result c = search needs
+
+sub-result-2 : tie.Need-sub-result-2 Inv-loop μ-loop
+sub-result-2 c = rest-fits _ _ (omega arith)
+
+returns-2 : tie.Need-returns-2 Inv-loop μ-loop
+returns-2 c =
+    let l = c .before .before .before .before in
+    let b = l .before .before .before in
+    tested-from (b .pre .0) (b .args .table .now) (l .loop .inv) (stop-smaller (l .loop .inv .scan) (omega arith))
+
+add-size : tie.Need-add-size Inv-loop μ-loop
+add-size c = search needs
+
+sub-size : tie.Need-sub-size Inv-loop μ-loop
+sub-size c = search needs
+
+mul-if4 : tie.Need-mul-if4 Inv-loop μ-loop
+mul-if4 c = search needs
+
+shared-slice-read-if4 : tie.Need-shared-slice-read-if4 Inv-loop μ-loop
+shared-slice-read-if4 c = search needs
+
+cast-if4 : tie.Need-cast-if4 Inv-loop μ-loop
+cast-if4 c = omega (arith, c .shared-slice-known4 .given (c .before .before .before .before .before .before .loop .end))
+
+returns-3 : tie.Need-returns-3 Inv-loop μ-loop
+returns-3 c =
+    let l = c .before .before .before .before .before .before .before in
+    let b = l .before .before .before in
+    testing-up-wrong (b .pre .0) (b .args .table .now) (l .loop .inv) (omega arith) (omega arith) (λ e. omega (arith, e))
+
+mul-if5 : tie.Need-mul-if5 Inv-loop μ-loop
+mul-if5 c = search needs
+
+shared-slice-read-if5 : tie.Need-shared-slice-read-if5 Inv-loop μ-loop
+shared-slice-read-if5 c = search needs
+
+sub-if5 : tie.Need-sub-if5 Inv-loop μ-loop
+sub-if5 c = search needs
+
+mul-if5-2 : tie.Need-mul-if5-2 Inv-loop μ-loop
+mul-if5-2 c = search needs
+
+shared-slice-read-if5-2 : tie.Need-shared-slice-read-if5-2 Inv-loop μ-loop
+shared-slice-read-if5-2 c = search needs
+
+returns-4 : tie.Need-returns-4 Inv-loop μ-loop
+returns-4 c =
+    let l = c .before .before .before .before .before .before .before .before in
+    let b = l .before .before .before in
+    testing-same-wrong (b .pre .0) (b .args .table .now) (l .loop .inv) (omega arith) (omega arith) (λ e. omega (arith, e))
+
+add-end-2 : tie.Need-add-end-2 Inv-loop μ-loop
+add-end-2 c = search needs
+
+loop-less : tie.Need-loop-less Inv-loop μ-loop
+loop-less c = search needs
+
+loop-again : tie.Need-loop-again Inv-loop μ-loop
+loop-again c =
+    let l = c .before .before .before .before .before in
+    let b = l .before .before .before in
+    ⊎-elim (λ w. rw (w .3) (testing-up (b .pre .0) (b .args .table .now) (l .loop .inv) (omega arith) (w .0 .taken) (w .2 .left)))
+    (λ w. rw (w .4) (testing-same (b .pre .0) (b .args .table .now) (l .loop .inv) (omega arith) (omega arith) (w .3 .left))) (c .if3 .came)
+
+sub-result-3 : tie.Need-sub-result-3 Inv-loop μ-loop
+sub-result-3 c = search needs
+
+rem-result-2 : tie.Need-rem-result-2 Inv-loop μ-loop
+rem-result-2 c = search needs
+
+sub-result-4 : tie.Need-sub-result-4 Inv-loop μ-loop
+sub-result-4 c = rest-fits _ _ (omega arith)
+
+returns-5 : tie.Need-returns-5 Inv-loop μ-loop
+returns-5 c =
+    let l = c .before in
+    let b = l .before .before .before in
+    tested-from (b .pre .0) (b .args .table .now) (l .loop .inv) (stop-end (l .loop .inv .scan) (omega arith))
+
+pub test-from-spec : {M : Type 1} → statement M
+test-from-spec =
+    tie.close
+    (tie.spec
+    Inv-loop
+    μ-loop
+    mul-if1
+    shared-slice-read-if1
+    returns
+    add-end
+    loop-holds
+    sub-old
+    shared-slice-read-old
+    shared-slice-read-new
+    sub-result
+    rem-result
+    sub-result-2
+    returns-2
+    add-size
+    sub-size
+    mul-if4
+    shared-slice-read-if4
+    cast-if4
+    returns-3
+    mul-if5
+    shared-slice-read-if5
+    sub-if5
+    mul-if5-2
+    shared-slice-read-if5-2
+    returns-4
+    add-end-2
+    loop-less
+    loop-again
+    sub-result-3
+    rem-result-2
+    sub-result-4
+    returns-5)

@@ -1,5 +1,0 @@
-pub mod Fill
-pub mod Reach
-pub mod Start
-pub mod Last
-pub mod Pass
