@@ -19,12 +19,13 @@ use Rattle.words.proofs.Fresh.{bits-least}
 use Rattle.words.proofs.Middle.{middle-suffix}
 use Rattle.longest.specs.Best.{longestOf}
 use Rattle.longest.specs.declared.Longest.{Longest}
-use Rattle.edit.proofs.Meets.{edited-short}
+use Rattle.seams.proofs.Meets.{edited-short}
 use Rattle.edit.specs.Core.{countsOf}
-use Rattle.edit.specs.Inner.{Accepted, planOf, roomRefusals, FillsNumbers}
+use Rattle.edit.specs.Inner.{roomRefusals, FillsNumbers}
+use Rattle.seams.specs.Seams.{Accepted, planOf}
 use Rattle.edit.specs.declared.Counts.{Counts}
 use Rattle.edit.specs.declared.Answer.the-variants.{Done, Refused}
-use Rattle.edit.specs.declared.Seams.{Seams}
+use Rattle.seams.specs.declared.Seams.{Seams}
 
 module _ {refusals : List Refusal} {s : List ℕ} {from to : ℕ} {b numbers starts : List ℕ} where
   -- a refused call leaves the rows as they were

@@ -1,4 +1,1 @@
-pub mod Refused
-pub mod Meets
 pub mod Filled
-pub mod Passed

@@ -1,21 +1,14 @@
--- What the call that answers an edit refuses, answers and leaves in its rows.
-use mathlib.Core.List.{List, [], _∷_}
+-- What the call that answers an edit answers and leaves in its rows.
+use mathlib.Core.List.{List}
 use mathlib.Core.Path.{_≡_}
 use Prim.Native.Nat.{ℕ, zero, suc}
 use lib.ListN.{length}
 use Rattle.refusals.specs.Refusals.{Refusal, firstOf, rowAfter}
-use Rattle.refusals.specs.Refusals.{patternTooLong, noStretch, blockTooLong, editedTooLong, notTable}
 use Rattle.words.specs.Edit.{edited, kept, resume, middleGroups}
-use Rattle.words.specs.Tables.{lyndonArray, lastFactors, longest, longestStarts}
+use Rattle.words.specs.Tables.{longest, longestStarts}
 use Rattle.edit.specs.declared.Counts.{Counts}
 use Rattle.edit.specs.declared.Answer.{Answer}
 use Rattle.edit.specs.declared.Answer.the-variants.{Done, Refused}
-
--- The refusals of an edit that need no result: 1 to 5.
-abbrev pub editRefusals : List ℕ → List ℕ → List ℕ → ℕ → ℕ → List ℕ → List Refusal
-editRefusals s array last from to b =
-    patternTooLong s ∷ noStretch s from to ∷ blockTooLong b ∷ editedTooLong s from to b
-    ∷ notTable (lyndonArray s) array ∷ notTable (lastFactors s) last ∷ []
 
 -- The numbers of the answer to an accepted edit.
 unfoldable pub countsOf : List ℕ → ℕ → ℕ → List ℕ → Counts

@@ -2,24 +2,22 @@
 use mathlib.Core.Bool.{Bool, true, false, cond}
 use mathlib.Core.List.{List, [], _∷_, _++_}
 use mathlib.Core.Path.{_≡_, refl, sym, ap, _∙_}
-use Prim.Native.Nat.{ℕ, zero, suc, _+_, _*_, _≤_, _<_}
+use Prim.Native.Nat.{ℕ, zero, suc, _+_, _≤_}
 use native.Mathlib.Omega.{arith}
 use lib.ListN.{length, take, drop, length-append}
 use lib.Seq.{take-at}
 use borrow.Author.Tests.{le-ltb}
-use Rattle.edit.proofs.Passed.{first-earlier, first-later, passed-shape}
-use Rattle.edit.proofs.Refused.{Shaped}
-use Rattle.edit.specs.Core.{editRefusals}
+use Rattle.edit_refusal.proofs.Passed.{passed-shape}
+use Rattle.refusals.proofs.First.{first-earlier, first-later, First, first-is, first-passes, not-long, not-short, table-right}
+use Rattle.edit_refusal.proofs.Refused.{Shaped}
 use Rattle.lyndon.specs.Calls.{Fills}
 use Rattle.lyndon.specs.declared.Filled.{Filled}
-use Rattle.refusals.specs.Refusals.{Refusal, firstOf, rowAfter, maxPattern, patternTooLong, noStretch, blockTooLong, editedTooLong, notTable, tooShort}
-use Rattle.refusals.proofs.First.{First, first-is, first-passes, not-long, not-short, table-right}
+use Rattle.refusals.specs.Refusals.{editRefusals, Refusal, firstOf, rowAfter, maxPattern, patternTooLong, noStretch, blockTooLong, editedTooLong, notTable, tooShort}
 use Rattle.scan.proofs.Pass.{length-numbers}
 use Rattle.words.proofs.Bounded.{length-table}
 use Rattle.words.proofs.Edit.{middle-bound, length-edited}
 use Rattle.words.proofs.Fresh.{bits-least}
 use Rattle.words.proofs.Order.{same-refl}
-use Rattle.words.proofs.Tables.{lyndon-array-length, last-factors-length}
 use Rattle.words.specs.Bounded.{select, table}
 use Rattle.words.specs.Edit.{edited, middleGroups}
 use Rattle.words.specs.Factors.{groupNumbers}

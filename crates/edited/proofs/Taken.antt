@@ -5,16 +5,17 @@ use Prim.Native.Nat.{ℕ, zero, suc, _+_, _-_, _*_, _≤_}
 use native.Mathlib.Omega.{arith}
 use lib.ListN.{length, take, drop}
 use lib.Seq.{take-at}
-use Rattle.edit.proofs.Passed.{first-earlier, passed-shape, passed-table}
-use Rattle.edit.proofs.Refused.{Shaped}
-use Rattle.edit.specs.Core.{editRefusals, countsOf}
+use Rattle.edit_refusal.proofs.Passed.{passed-shape, passed-table}
+use Rattle.refusals.proofs.First.{first-zero}
+use Rattle.edit_refusal.proofs.Refused.{Shaped}
+use Rattle.edit.specs.Core.{countsOf}
+use Rattle.refusals.specs.Refusals.{editRefusals, Refusal, firstOf, rowAfter, tooShort}
 use Rattle.edit.specs.declared.Answer.{Answer}
 use Rattle.edit.specs.declared.Answer.the-variants.{Done}
 use Rattle.edit.specs.declared.Counts.{Counts}
 use Rattle.edited_text.specs.Answered.{Answered}
 use Rattle.lyndon_edit.proofs.Answered.{done-accepted}
 use Rattle.lyndon_edit.specs.Calls.{EditsNumbers}
-use Rattle.refusals.specs.Refusals.{Refusal, firstOf, rowAfter, tooShort}
 use Rattle.text.proofs.EditedLength.{edited-room}
 use Rattle.text.specs.Listing.{editedText}
 use Rattle.scan.proofs.Pass.{length-numbers}
@@ -22,13 +23,6 @@ use Rattle.words.proofs.Edit.{length-edited}
 use Rattle.words.specs.Edit.{edited, middleGroups}
 use Rattle.words.specs.Factors.{groupNumbers}
 use Rattle.words.specs.Tables.{longestStarts}
-
-first-zero : (xs ys : List Refusal) → firstOf (xs ++ ys) ≡ 0 → firstOf xs ≡ 0
-first-zero xs ys e = go (firstOf xs) refl
-  where
-    go : (k : ℕ) → firstOf xs ≡ k → firstOf xs ≡ 0
-    go zero h = h
-    go (suc k) h = absurd (omega (arith, e, first-earlier xs ys h))
 
 row-written : (k : ℕ) (out row : List ℕ) → k ≡ 0 → rowAfter k out row ≡ out ++ drop (length out) row
 row-written zero out row e = refl

@@ -9,13 +9,14 @@ use lib.Dec.{ltb}
 use lib.ListN.{length, take, drop}
 use lib.Seq.{take-append-seam}
 use borrow.Author.Tests.{lt-ltb, le-ltb}
-use Rattle.edit.proofs.Passed.{first-earlier, first-later, passed-shape}
-use Rattle.edit.specs.Core.{editRefusals, countsOf, answerOf}
+use Rattle.edit_refusal.proofs.Passed.{passed-shape}
+use Rattle.refusals.proofs.First.{first-later, first-zero}
+use Rattle.edit.specs.Core.{countsOf, answerOf}
+use Rattle.refusals.specs.Refusals.{editRefusals, Refusal, firstOf, rowAfter, tooShort}
 use Rattle.edit.specs.Inner.{roomRefusals, FillsNumbers}
 use Rattle.edit.specs.declared.Answer.{Answer}
 use Rattle.edit.specs.declared.Answer.the-variants.{Done}
 use Rattle.edit.specs.declared.Counts.{Counts}
-use Rattle.refusals.specs.Refusals.{Refusal, firstOf, rowAfter, tooShort}
 use Rattle.rows.specs.Row.{written}
 use Rattle.scan.proofs.Pass.{length-numbers}
 use Rattle.words.proofs.Bounded.{le-or-lt}
@@ -36,13 +37,6 @@ number-groups (g ∷ gs) rest = ap {B = List Group} (λ t. g ∷ t) (number-grou
 pub done-accepted : (k : ℕ) (a c : Counts) → answerOf k a ≡ Done c → (k ≡ 0) × (a ≡ c)
 done-accepted zero a c e = (refl, cc)
 done-accepted (suc k) a c e = let z : _≡_ {A = ℕ} 0 1 = cc in absurd (omega arith)
-
-first-zero : (xs ys : List Refusal) → firstOf (xs ++ ys) ≡ 0 → firstOf xs ≡ 0
-first-zero xs ys e = go (firstOf xs) refl
-  where
-    go : (n : ℕ) → firstOf xs ≡ n → firstOf xs ≡ 0
-    go zero q = q
-    go (suc k) q = absurd (omega (arith, first-earlier xs ys q))
 
 module _ (s array last : List ℕ) (from to : ℕ) (b : List ℕ) where
   -- where no refusal holds, none of those tested later does

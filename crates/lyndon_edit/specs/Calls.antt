@@ -4,12 +4,12 @@ use mathlib.Core.List.{List, [], _∷_, _++_, map}
 use mathlib.Core.Path.{_≡_}
 use Prim.Native.Nat.{ℕ, zero, suc}
 use lib.ListN.{length, take}
-use Rattle.edit.specs.Core.{editRefusals, Fills}
+use Rattle.edit.specs.Core.{Fills}
 use Rattle.edit.specs.declared.Answer.{Answer}
 use Rattle.edit.specs.declared.Answer.the-variants.{Done}
 use Rattle.edit.specs.declared.Counts.{Counts}
 use Rattle.records.specs.declared.Group.{Group}
-use Rattle.refusals.specs.Refusals.{Refusal, tooShort}
+use Rattle.refusals.specs.Refusals.{Refusal, tooShort, editRefusals}
 use Rattle.words.specs.Demand.{DemandThree}
 use Rattle.words.specs.Edit as words
 use Rattle.words.specs.Factors as factors

@@ -1,8 +1,8 @@
 // The public calls that answer an edit of a stored pattern: `edit` with the middle groups as records, `edit_numbers` with three numbers each.
 // Both test refusals 1, 2, 3, 4, 5 and 8 in this order and write nothing where one holds; neither requires anything.
 use edit::Answer;
-use edit::core;
 use edit::count_of;
+use edit_core::core;
 use records::Group;
 use records::store_all;
 ghost use Rattle.lyndon_edit.specs.Calls.{EditsNumbers, EditsRecords};

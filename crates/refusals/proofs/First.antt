@@ -1,8 +1,8 @@
 -- Which refusal is the first that holds, shown test by test in the order of the list.
-use mathlib.Core.Bool.{true, false}
-use mathlib.Core.List.{List, [], _∷_}
-use mathlib.Core.Path.{_≡_, refl}
-use Prim.Native.Nat.{ℕ, _≤_, _<_}
+use mathlib.Core.Bool.{Bool, true, false}
+use mathlib.Core.List.{List, [], _∷_, _++_}
+use mathlib.Core.Path.{_≡_, refl, sym, _∙_}
+use Prim.Native.Nat.{ℕ, zero, suc, _≤_, _<_}
 use native.Mathlib.Omega.{arith}
 use lib.ListN.{length, take}
 use borrow.Author.Tests.{lt-ltb, le-ltb}
@@ -54,3 +54,32 @@ module _ (table row : List ℕ) (n : ℕ) (size : length table ≡ n) where
 
   pub table-right : {rs : List Refusal} {k : ℕ} → n ≤ length row → same (take n row) table ≡ true → First rs k → First (notTable table row ∷ rs) k
   table-right h e f = passes {r = notTable table row} (rw (le-ltb (length row) (length table) (omega (arith, size)), size, e)) f
+
+-- lists of refusals, one behind the other
+-- the refusals have numbers other than 0
+abbrev pub Numbered : List Refusal → Type 0
+Numbered [] = Unit {0}
+Numbered (r ∷ rs) = (0 < r .number) × Numbered rs
+
+pub first-later : (xs ys : List Refusal) → Numbered xs → firstOf xs ≡ 0 → firstOf (xs ++ ys) ≡ firstOf ys
+first-later [] ys n e = refl
+first-later (r ∷ xs) ys n e = go (r .holds) refl (λ h. first-later xs ys (n .1) h)
+  where
+    go : (b : Bool) → r .holds ≡ b → (firstOf xs ≡ 0 → firstOf (xs ++ ys) ≡ firstOf ys) → firstOf ((r ∷ xs) ++ ys) ≡ firstOf ys
+    go true h rest = absurd (omega (arith, first-holds r xs h, e, n .0))
+    go false h rest = first-passes r (xs ++ ys) h ∙ rest (sym (first-passes r xs h) ∙ e)
+
+pub first-earlier : (xs ys : List Refusal) {k : ℕ} → firstOf xs ≡ suc k → firstOf (xs ++ ys) ≡ suc k
+first-earlier [] ys e = absurd (omega (arith, e))
+first-earlier (r ∷ xs) ys {k} e = go (r .holds) refl (λ h. first-earlier xs ys h)
+  where
+    go : (b : Bool) → r .holds ≡ b → (firstOf xs ≡ suc k → firstOf (xs ++ ys) ≡ suc k) → firstOf ((r ∷ xs) ++ ys) ≡ suc k
+    go true h rest = first-holds r (xs ++ ys) h ∙ sym (first-holds r xs h) ∙ e
+    go false h rest = first-passes r (xs ++ ys) h ∙ rest (sym (first-passes r xs h) ∙ e)
+
+pub first-zero : (xs ys : List Refusal) → firstOf (xs ++ ys) ≡ 0 → firstOf xs ≡ 0
+first-zero xs ys e = go (firstOf xs) refl
+  where
+    go : (n : ℕ) → firstOf xs ≡ n → firstOf xs ≡ 0
+    go zero q = q
+    go (suc k) q = absurd (omega (arith, first-earlier xs ys q))

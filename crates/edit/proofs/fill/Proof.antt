@@ -6,7 +6,7 @@ use Rattle.edit.proofs.fill.Statement.{statement}
 use Rattle.edit.proofs.fill.Tie as tie
 use Rattle.edit.proofs.fill.Reads as reads
 use Rattle.edit.proofs.fill.Lts as lts
-use Rattle.edit.proofs.plan.Reads as plan-reads
+use Rattle.seams.proofs.plan.Reads as plan-reads
 use Rattle.factoring.proofs.count_groups.Reads as count-groups-reads
 use Rattle.factoring.proofs.write_groups.Reads as write-groups-reads
 use Rattle.longest.proofs.measure.Reads as measure-reads

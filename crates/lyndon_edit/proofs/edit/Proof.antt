@@ -56,10 +56,10 @@ use Rattle.records.proofs.LocalArray as LA
 use Rattle.records.proofs.Group as T
 use Rattle.edit.proofs.Answer as Ans
 use Rattle.edit.proofs.Answer.Laws as Ans′
-use Rattle.edit.proofs.core as core
-use Rattle.edit.proofs.core.Symbol as core-def
-use Rattle.edit.proofs.core.Symbol.{name as #edit·core}
-use Rattle.edit.proofs.core.Met as core-thm
+use Rattle.edit_core.proofs.core as core
+use Rattle.edit_core.proofs.core.Symbol as core-def
+use Rattle.edit_core.proofs.core.Symbol.{name as #edit-core·core}
+use Rattle.edit_core.proofs.core.Met as core-thm
 use Rattle.edit.proofs.count_of as count-of
 use Rattle.edit.proofs.count_of.Symbol as count-of-def
 use Rattle.edit.proofs.count_of.Symbol.{name as #edit·count-of}
@@ -193,7 +193,7 @@ module _ {M : Type 1} (𝓤 : URA M) (H : Heap 𝓤) (A : Atoms 𝓤) (W : Given
   count-said : (r : Answer) (n : ℕ) → ent 𝓤 (ensured 𝓤 H A count-of.ended (count-of.clauses 𝓤 H A mem run) tt (r, tt) tt n) (fact 𝓤 (n ≡ countOf r))
   count-said r n = exE 𝓤 _ (λ ws. snd∗ 𝓤 (sem 𝓤 H A (lasts count-of.ended tt (r, tt) ws)) (fact 𝓤 (n ≡ countOf r)))
 
-  module _ (C : Calls 𝓤 H) (Λ : Loops 𝓤 H) (fm : FmC 𝓤 H (W .laws) C) (known-core : Triple 𝓤 (C #edit·core) (Core 𝓤 H A mem run)) (known-count : Triple 𝓤 (C #edit·count-of) (CountOf 𝓤 H A mem run)) (known-store : Triple 𝓤 (C #records·store-all) (StoreAll 𝓤 H A mem run)) where
+  module _ (C : Calls 𝓤 H) (Λ : Loops 𝓤 H) (fm : FmC 𝓤 H (W .laws) C) (known-core : Triple 𝓤 (C #edit-core·core) (Core 𝓤 H A mem run)) (known-count : Triple 𝓤 (C #edit·count-of) (CountOf 𝓤 H A mem run)) (known-store : Triple 𝓤 (C #records·store-all) (StoreAll 𝓤 H A mem run)) where
     walk : ent 𝓤 (onEntry 𝓤 H A thin.signature (κ₀, (κ₁, (κ₂, (κ₃, (κ₄, (κ₅, tt)))))) (q₀, (q₁, (q₂, (q₃, (q₄, (q₅, tt)))))) a vals) (WpFn 𝓤 H C Λ code.function ((sliceVal (x-pattern .ptr) (length (x-pattern .now))) ∷ (sliceVal (x-array .ptr) (length (x-array .now))) ∷ (sliceVal (x-last .ptr) (length (x-last .now))) ∷ (vint w64 x-from) ∷ (vint w64 x-to) ∷ (sliceVal (x-block .ptr) (length (x-block .now))) ∷ (sliceVal (x-middle .ptr) (length (x-middle .now))) ∷ (sliceVal (x-starts .ptr) (length (x-starts .now))) ∷ []) Post)
     walk =
         qed W ((‵ (flft κ₀ q₀) ⊛ ‵ (flft κ₁ q₁) ⊛ ‵ (flft κ₂ q₂) ⊛ ‵ (flft κ₃ q₃) ⊛ ‵ (flft κ₄ q₄) ⊛ ‵ (flft κ₅ q₅) ⊛ ‵ ftrue) ∷ ‵ (owns (ShrSlice (named 0) κ₀ u8 ∷ ShrSlice (named 1) κ₁ u16 ∷ ShrSlice (named 2) κ₂ u16 ∷ usize ∷ usize ∷ ShrSlice (named 3) κ₃ u8 ∷ MutSlice (named 4) κ₄ T.the-row ∷ MutSlice (named 5) κ₅ u16 ∷ []) a vals) ∷ []) ∵ enter ! C Λ code.function ((sliceVal (x-pattern .ptr) (length (x-pattern .now))) ∷ (sliceVal (x-array .ptr) (length (x-array .now))) ∷ (sliceVal (x-last .ptr) (length (x-last .now))) ∷ (vint w64 x-from) ∷ (vint w64 x-to) ∷ (sliceVal (x-block .ptr) (length (x-block .now))) ∷ (sliceVal (x-middle .ptr) (length (x-middle .now))) ∷ (sliceVal (x-starts .ptr) (length (x-starts .now))) ∷ []) _ $
@@ -224,13 +224,13 @@ module _ {M : Type 1} (𝓤 : URA M) (H : Heap 𝓤) (A : Atoms 𝓤) (W : Given
         move ! (55 ∷ 56 ∷ []) $ free1 ! $ move ! (53 ∷ 54 ∷ []) $ free1 ! $ move ! (51 ∷ 52 ∷ []) $ free1 ! $ move ! (49 ∷ 50 ∷ []) $ free1 ! $ move ! (47 ∷ 48 ∷ []) $ free1 ! $ move ! (45 ∷ 46 ∷ []) $ free1 ! $ move ! (43 ∷ 44 ∷ []) $ free1 ! $ move ! (41 ∷ 42 ∷ []) $ free1 ! $ move ! (39 ∷ 40 ∷ []) $ free1 ! $ move ! (0 ∷ 38 ∷ []) $ free1 ! $ move ! (35 ∷ 36 ∷ []) $ free1 ! $ move ! (33 ∷ 34 ∷ []) $ free1 ! $ move ! (31 ∷ 32 ∷ []) $ free1 ! $ move ! (29 ∷ 30 ∷ []) $ free1 ! $ move ! (27 ∷ 28 ∷ []) $ free1 ! $ move ! (25 ∷ 26 ∷ []) $ free1 ! $ move ! (23 ∷ 24 ∷ []) $ free1 ! $ move ! (21 ∷ 22 ∷ []) $ free1 ! $ move ! (19 ∷ 20 ∷ []) $ free1 ! $ move ! (17 ∷ 18 ∷ []) $ free1 ! $ move ! (15 ∷ 16 ∷ []) $ free1 ! $ move ! (13 ∷ 14 ∷ []) $ free1 ! $ free0 ! $ keep ! (7 ∷ 6 ∷ 5 ∷ 4 ∷ 0 ∷ 3 ∷ 12 ∷ 11 ∷ 10 ∷ 9 ∷ 2 ∷ 1 ∷ 8 ∷ []) $ by ! (exits (zs .1 .1 .1 .1 .1 .1 .1 .0) (zs .1 .1 .1 .1 .1 .1 .1 .1 .0) (ws .0) r w n said counts stored x-middle-long x-starts-long)))))))))))))))))))))))))))))))))))))))))))))
 
 module _ {M : Type 1} (𝓤 : URA M) (H : Heap 𝓤) (A : Atoms 𝓤) (W : Given 𝓤 H A) (mem : Memory → SProp 𝓤) (run : Routine → Fun 𝓤) where
-  thin-walks : (C : Calls 𝓤 H) (Λ : Loops 𝓤 H) → FmC 𝓤 H (W .laws) C → Triple 𝓤 (C #edit·core) (Core 𝓤 H A mem run) → Triple 𝓤 (C #edit·count-of) (CountOf 𝓤 H A mem run) → Triple 𝓤 (C #records·store-all) (StoreAll 𝓤 H A mem run) → Walks 𝓤 H A thin.ended stayed (WpFn 𝓤 H C Λ code.function) (thin.clauses 𝓤 H A mem run)
+  thin-walks : (C : Calls 𝓤 H) (Λ : Loops 𝓤 H) → FmC 𝓤 H (W .laws) C → Triple 𝓤 (C #edit-core·core) (Core 𝓤 H A mem run) → Triple 𝓤 (C #edit·count-of) (CountOf 𝓤 H A mem run) → Triple 𝓤 (C #records·store-all) (StoreAll 𝓤 H A mem run) → Walks 𝓤 H A thin.ended stayed (WpFn 𝓤 H C Λ code.function) (thin.clauses 𝓤 H A mem run)
   thin-walks C Λ fm known-core known-count known-store = walked 𝓤 H A thin.ended stayed (thin.clauses 𝓤 H A mem run) (WpFn 𝓤 H C Λ code.function)
       (λ κs. (slice-vals, (slice-vals, (slice-vals, (uint-vals w64, (uint-vals w64, (slice-vals, (slice-vals, (slice-vals, tt))))))))) (λ κs. (shr-slice-tells (named 0) (κs .0) u8, (shr-slice-tells (named 1) (κs .1 .0) u16, (shr-slice-tells (named 2) (κs .1 .1 .0) u16, (uint-tells w64, (uint-tells w64, (shr-slice-tells (named 3) (κs .1 .1 .1 .0) u8, (mut-slice-tells (named 4) (κs .1 .1 .1 .1 .0) T.the-row, (mut-slice-tells (named 5) (κs .1 .1 .1 .1 .1 .0) u16, tt)))))))))
       (λ κs qs bounds a g are. via 𝓤 _ (fst∗ 𝓤 _ (emp 𝓤)) (walk 𝓤 H A W mem run (κs .0) (κs .1 .0) (κs .1 .1 .0) (κs .1 .1 .1 .0) (κs .1 .1 .1 .1 .0) (κs .1 .1 .1 .1 .1 .0) (qs .0) (qs .1 .0) (qs .1 .1 .0) (qs .1 .1 .1 .0) (qs .1 .1 .1 .1 .0) (qs .1 .1 .1 .1 .1 .0) (a .0) (a .1 .0) (a .1 .1 .0) (a .1 .1 .1 .0) (a .1 .1 .1 .1 .0) (a .1 .1 .1 .1 .1 .0) (a .1 .1 .1 .1 .1 .1 .0) (a .1 .1 .1 .1 .1 .1 .1 .0)
       (are .0 .0 .1) (are .1 .0 .0 .1) (are .1 .1 .0 .0 .1) (are .1 .1 .1 .0 .1) (are .1 .1 .1 .1 .0 .1) (are .1 .1 .1 .1 .1 .0 .0 .1) (are .1 .1 .1 .1 .1 .1 .0 .0 .1) (are .1 .1 .1 .1 .1 .1 .1 .0 .0 .1) C Λ fm known-core known-count known-store))
 
-thin-meets : {M : Type 1} (𝓤 : URA M) (H : Heap 𝓤) (A : Atoms 𝓤) → Given 𝓤 H A → (mem : Memory → SProp 𝓤) (run : Routine → Fun 𝓤) (𝓣 : Tables 𝓤 H) → Triple 𝓤 (𝓣 .C #edit·core) (Core 𝓤 H A mem run) → Triple 𝓤 (𝓣 .C #edit·count-of) (CountOf 𝓤 H A mem run) → Triple 𝓤 (𝓣 .C #records·store-all) (StoreAll 𝓤 H A mem run) → Meets 𝓤 H A thin.signature (WpFn 𝓤 H (𝓣 .C) (𝓣 .Λ) code.function) (thin.spec 𝓤 H A mem run)
+thin-meets : {M : Type 1} (𝓤 : URA M) (H : Heap 𝓤) (A : Atoms 𝓤) → Given 𝓤 H A → (mem : Memory → SProp 𝓤) (run : Routine → Fun 𝓤) (𝓣 : Tables 𝓤 H) → Triple 𝓤 (𝓣 .C #edit-core·core) (Core 𝓤 H A mem run) → Triple 𝓤 (𝓣 .C #edit·count-of) (CountOf 𝓤 H A mem run) → Triple 𝓤 (𝓣 .C #records·store-all) (StoreAll 𝓤 H A mem run) → Meets 𝓤 H A thin.signature (WpFn 𝓤 H (𝓣 .C) (𝓣 .Λ) code.function) (thin.spec 𝓤 H A mem run)
 thin-meets 𝓤 H A W mem run 𝓣 known-core known-count known-store =
     walk-meets 𝓤 H A thin.ended stayed W (goes-none-slice 𝓤 H A W 6 (0 ∷ []) tt (plain (λ _. u8)) yes, (goes-none-slice 𝓤 H A W 6 (1 ∷ []) tt (plain (λ _. u16)) yes, (goes-none-slice 𝓤 H A W 6 (2 ∷ []) tt (plain (λ _. u16)) yes, (goes-none 𝓤 H A W 6 (λ _. usize) yes (λ κs x f. refl), (goes-none 𝓤 H A W 6 (λ _. usize) yes (λ κs x f. refl), (goes-none-slice 𝓤 H A W 6 (3 ∷ []) tt (plain (λ _. u8)) yes, (goes-gave-slice 𝓤 H A W 6 4 tt (plain (λ _. T.the-row)), (goes-gave-slice 𝓤 H A W 6 5 tt (plain (λ _. u16)), tt)))))))) (thin.clauses 𝓤 H A mem run)
     (WpFn 𝓤 H (𝓣 .C) (𝓣 .Λ) code.function) (WpFn-mono 𝓤 H (W .laws) 𝓣 code.function) (thin-walks 𝓤 H A W mem run (𝓣 .C) (𝓣 .Λ) (fmOf 𝓤 H (W .laws) 𝓣) known-core known-count known-store)
@@ -241,6 +241,6 @@ edit-spec 𝓤 H 𝓜 𝓖 𝓡 =
     entered 𝓤 H (tripleOf 𝓤 H (𝓖 .A) thin.signature (thin.spec 𝓤 H (𝓖 .A) (𝓜 .mem) (𝓡 .run)))
     (tables 𝓤 H 𝓜 𝓡 code.env .C) (tables 𝓤 H 𝓜 𝓡 code.env .Λ) #lyndon-edit·edit code.function (code.unfolded 𝓤 H 𝓜 𝓡)
     (thin-meets 𝓤 H (𝓖 .A) (givenOf 𝓤 H 𝓜 𝓖) (𝓜 .mem) (𝓡 .run) (tablesOf 𝓤 H 𝓜 (tables 𝓤 H 𝓜 𝓡 code.env))
-    (cited 𝓤 H (Core 𝓤 H (𝓖 .A) (𝓜 .mem) (𝓡 .run)) 𝓜 𝓡 code.env #edit·core core-def.routine code.calls-edit·core (core-thm.met 𝓤 H 𝓜 𝓖 𝓡))
+    (cited 𝓤 H (Core 𝓤 H (𝓖 .A) (𝓜 .mem) (𝓡 .run)) 𝓜 𝓡 code.env #edit-core·core core-def.routine code.calls-edit-core·core (core-thm.met 𝓤 H 𝓜 𝓖 𝓡))
     (cited 𝓤 H (CountOf 𝓤 H (𝓖 .A) (𝓜 .mem) (𝓡 .run)) 𝓜 𝓡 code.env #edit·count-of count-of-def.routine code.calls-edit·count-of (count-of-thm.met 𝓤 H 𝓜 𝓖 𝓡))
     (cited 𝓤 H (StoreAll 𝓤 H (𝓖 .A) (𝓜 .mem) (𝓡 .run)) 𝓜 𝓡 code.env #records·store-all store-all-def.routine code.calls-records·store-all (store-all-thm.met 𝓤 H 𝓜 𝓖 𝓡)))

@@ -5,7 +5,7 @@ use Rattle.lyndon_edit.proofs.edit_numbers.Statement.{statement}
 use Rattle.lyndon_edit.proofs.edit_numbers.Tie as tie
 use Rattle.lyndon_edit.proofs.edit_numbers.Reads as reads
 use Rattle.lyndon_edit.proofs.edit_numbers.Lts as lts
-use Rattle.edit.proofs.core.Reads as core-reads
+use Rattle.edit_core.proofs.core.Reads as core-reads
 
 -- src/lib.rt:54:5
 core-requires : tie.Need-core-requires

@@ -6,14 +6,13 @@ use Prim.Native.Nat.{ℕ, _+_, _-_, _≤_, _<_}
 use native.Mathlib.Omega.{arith}
 use lib.ListN.{length, take}
 use borrow.Author.Tests.{lt-ltb, le-ltb}
-use Rattle.refusals.specs.Refusals.{firstOf, maxPattern, maxBlock, blockTooLong, editedTooLong, notTable}
+use Rattle.refusals.specs.Refusals.{firstOf, maxPattern, maxBlock, blockTooLong, editedTooLong, notTable, editRefusals}
 use Rattle.refusals.proofs.First.{first-holds, first-passes}
 use Rattle.words.specs.Edit.{edited}
 use Rattle.words.specs.Order.{same}
 use Rattle.words.specs.Tables.{lyndonArray, lastFactors}
 use Rattle.words.proofs.Edit.{length-edited}
 use Rattle.words.proofs.Tables.{lyndon-array-length, last-factors-length}
-use Rattle.edit.specs.Core.{editRefusals}
 
 -- a row against a table of n entries
 module _ (table row : List ℕ) (n : ℕ) (size : length table ≡ n) where

@@ -1,16 +1,17 @@
--- `edit::core` meets its contract: refused by the first of the tests that holds, or filled from the edited pattern.
+-- `edit_core::core` meets its contract: refused by the first of the tests that holds, or filled from the edited pattern.
 use lib.ListN.{length}
 use Rattle.edit.specs.Inner.{roomRefusals}
-use Rattle.edit.proofs.Passed.{fills-first, fills-later, passed-shape, spliced-within, spliced-long, passed-accepted}
+use Rattle.edit_core.proofs.Accepted.{fills-first, fills-later, spliced-within, spliced-long, passed-accepted}
+use Rattle.edit_refusal.proofs.Passed.{passed-shape}
 use borrow.Author.Needs.{needs}
 use native.Mathlib.Omega.{arith}
-use Rattle.edit.proofs.core.Statement.{statement}
-use Rattle.edit.proofs.core.Tie as tie
-use Rattle.edit.proofs.core.Reads as reads
-use Rattle.edit.proofs.core.Lts as lts
+use Rattle.edit_core.proofs.core.Statement.{statement}
+use Rattle.edit_core.proofs.core.Tie as tie
+use Rattle.edit_core.proofs.core.Reads as reads
+use Rattle.edit_core.proofs.core.Lts as lts
 use Rattle.cuts.proofs.splice.Reads as splice-reads
 use Rattle.edit.proofs.fill.Reads as fill-reads
-use Rattle.edit.proofs.refusal.Reads as refusal-reads
+use Rattle.edit_refusal.proofs.refusal.Reads as refusal-reads
 
 refusal-requires : tie.Need-refusal-requires
 refusal-requires c κs = search needs

@@ -10,8 +10,8 @@ use Rattle.words.specs.Edit.{edited, place, kept, resume}
 use Rattle.words.specs.Factors.{join, factors, startAt}
 use Rattle.words.proofs.Edit.{length-edited, kept-least, kept-same, resumeFactor, resume-is, resume-first}
 use Rattle.words.proofs.EditParts.{end-le, endingBy, ending-is, startingBy, starting-is}
-use Rattle.edit.specs.Inner.{Accepted, planOf}
-use Rattle.edit.specs.declared.Seams.{Seams}
+use Rattle.seams.specs.Seams.{Accepted, planOf}
+use Rattle.seams.specs.declared.Seams.{Seams}
 
 ends-count : {fs : List (List ℕ)} {q count end : ℕ} → EndsBy fs q count end → endingBy q fs ≡ count
 ends-count {fs} {q} {count} e = ending-is q count fs (e .within) (omega (arith, e .at, e .before)) (e .last)

@@ -1,14 +1,14 @@
--- `edit::refusal` meets its contract: each of its returns is one way through the tests.
+-- `edit_refusal::refusal` meets its contract: each of its returns is one way through the tests.
 use mathlib.Core.Path.{sym, _∙_}
 use borrow.Author.Tests.{not-true, not-false}
-use Rattle.edit.proofs.Refused.{Shaped, refuses-pattern, refuses-backward, refuses-end, refuses-block, refuses-edited}
-use Rattle.edit.proofs.Refused.{refuses-array-short, refuses-array, refuses-last-short, refuses-last, refuses-none}
+use Rattle.edit_refusal.proofs.Refused.{Shaped, refuses-pattern, refuses-backward, refuses-end, refuses-block, refuses-edited}
+use Rattle.edit_refusal.proofs.Refused.{refuses-array-short, refuses-array, refuses-last-short, refuses-last, refuses-none}
 use borrow.Author.Needs.{needs}
 use native.Mathlib.Omega.{arith}
-use Rattle.edit.proofs.refusal.Statement.{statement}
-use Rattle.edit.proofs.refusal.Tie as tie
-use Rattle.edit.proofs.refusal.Reads as reads
-use Rattle.edit.proofs.refusal.Lts as lts
+use Rattle.edit_refusal.proofs.refusal.Statement.{statement}
+use Rattle.edit_refusal.proofs.refusal.Tie as tie
+use Rattle.edit_refusal.proofs.refusal.Reads as reads
+use Rattle.edit_refusal.proofs.refusal.Lts as lts
 use Rattle.prefix_table.proofs.is_last_factors.Reads as is-last-factors-reads
 use Rattle.reach_table.proofs.is_lyndon_array.Reads as is-lyndon-array-reads
 

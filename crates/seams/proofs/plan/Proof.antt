@@ -1,11 +1,11 @@
--- `edit::plan` meets its contract: the ends and the start that its calls find are those of the plan.
-use Rattle.edit.proofs.Meets.{starts-within, edited-short, first-start-asks, plan-old, plan-new}
+-- `seams::plan` meets its contract: the ends and the start that its calls find are those of the plan.
+use Rattle.seams.proofs.Meets.{starts-within, edited-short, first-start-asks, plan-old, plan-new}
 use borrow.Author.Needs.{needs}
 use native.Mathlib.Omega.{arith}
-use Rattle.edit.proofs.plan.Statement.{statement}
-use Rattle.edit.proofs.plan.Tie as tie
-use Rattle.edit.proofs.plan.Reads as reads
-use Rattle.edit.proofs.plan.Lts as lts
+use Rattle.seams.proofs.plan.Statement.{statement}
+use Rattle.seams.proofs.plan.Tie as tie
+use Rattle.seams.proofs.plan.Reads as reads
+use Rattle.seams.proofs.plan.Lts as lts
 use Rattle.cuts.proofs.first_start.Reads as first-start-reads
 use Rattle.cuts.proofs.scanned_ends.Reads as scanned-ends-reads
 use Rattle.cuts.proofs.stored_ends.Reads as stored-ends-reads

@@ -1,0 +1,67 @@
+-- What holds of an edit past the refusals 1 to 5: it is accepted, and the refusals that are tested later decide.
+use mathlib.Core.List.{List, _++_}
+use mathlib.Core.Path.{_≡_, refl, sym, ap, _∙_}
+use Prim.Native.Nat.{ℕ, zero, suc, _+_, _-_, _≤_}
+use native.Mathlib.Omega.{arith}
+use lib.ListN.{length, take, drop, length-append}
+use lib.Seq.{take-at, length-take-le}
+use Rattle.edit.specs.Inner.{FillsNumbers}
+use Rattle.edit.specs.declared.Answer.{Answer}
+use Rattle.edit.specs.declared.Answer.the-variants.{Refused}
+use Rattle.edit.proofs.Filled.{fills-refused}
+use Rattle.edit_refusal.proofs.Passed.{passed-shape, passed-table}
+use Rattle.edit_refusal.proofs.Refused.{Shaped}
+use Rattle.refusals.specs.Refusals.{Refusal, firstOf, editRefusals}
+use Rattle.refusals.proofs.First.{first-later, first-earlier}
+use Rattle.rows.specs.Row.{written}
+use Rattle.seams.specs.Seams.{Accepted}
+use Rattle.words.specs.Edit.{edited}
+use Rattle.words.proofs.Edit.{length-edited}
+
+module _ (s array last : List ℕ) (from to : ℕ) (b : List ℕ) where
+  -- refused by one of them
+  pub fills-first : {later : List Refusal} {numbers starts : List ℕ} (n : ℕ) → n ≡ firstOf (editRefusals s array last from to b) → (n ≡ 0 → ⊥)
+      → FillsNumbers (editRefusals s array last from to b ++ later) s from to b numbers numbers starts starts (Refused n)
+  fills-first zero e h = absurd (h refl)
+  fills-first {later} (suc k) e h = fills-refused (first-earlier (editRefusals s array last from to b) later (sym e))
+
+  -- refused by none of them
+  module _ {n : ℕ} (first : n ≡ firstOf (editRefusals s array last from to b)) (zero : n ≡ 0) where
+    e : firstOf (editRefusals s array last from to b) ≡ 0
+    e = sym first ∙ zero
+
+    -- refused or answered by what is tested later
+    pub fills-later : {later : List Refusal} {numbers numbers′ starts starts′ : List ℕ} {r : Answer}
+        → FillsNumbers later s from to b numbers numbers′ starts starts′ r
+        → FillsNumbers (editRefusals s array last from to b ++ later) s from to b numbers numbers′ starts starts′ r
+    fills-later {later} f =
+        let same : firstOf (editRefusals s array last from to b ++ later) ≡ firstOf later = first-later (editRefusals s array last from to b) later
+        (omega arith, (omega arith, (omega arith, (omega arith, (omega arith, (omega arith, tt)))))) e in
+        record { answers = rw same (f .answers); middle = rw same (f .middle); places = rw same (f .places) }
+
+    shape : Shaped s from to b
+    shape = passed-shape s array last from to b first zero
+
+    size : length (edited s from to b) ≡ from + length b + (length s - to)
+    size = length-edited s from to b (shape .start) (shape .stretch)
+
+    -- the row to which the edited pattern was spliced
+    module _ (row : List ℕ) {row′ : List ℕ} (w : row′ ≡ written (edited s from to b) row) where
+      pub spliced-within : from + length b + (length s - to) ≤ length row′
+      spliced-within = omega (arith, size, ap length w, length-append (edited s from to b) (drop (length (edited s from to b)) row))
+
+      pub spliced-long : from + length b + (length s - to) ≡ length (take (from + length b + (length s - to)) row′)
+      spliced-long = sym (length-take-le (from + length b + (length s - to)) row′ spliced-within)
+
+      pub passed-accepted : Accepted s array from to b (take (from + length b + (length s - to)) row′)
+      passed-accepted =
+          let m = from + length b + (length s - to) in
+          record {
+            start = shape .start;
+            stretch = shape .stretch;
+            pattern = shape .pattern;
+            block = shape .block;
+            table = passed-table s array last from to b first zero;
+            spliced = ap (take m) w ∙ take-at (edited s from to b) (drop (length (edited s from to b)) row) m size;
+            fits = omega (arith, size, shape .fits);
+          }
