@@ -1,22 +1,14 @@
 // The answer to edits: the trainer's sheet, both ends, edges of length, refusals of which later ones hold too, wrong entries of the tables,
 // and positions at the largest `usize`. Rows have room for so many groups and places.
-ghost use Prim.Native.Nat.{_≤_};
-use crate::calls::OLD;
-use crate::show;
 use edit::Answer;
 use lyndon_edit::edit_numbers;
+use show::calls::OLD;
+use show::calls::least;
 
 // The tables of acbabcabcabac.
 const REACH: [u16; 13] = [3, 1, 1, 3, 2, 1, 3, 2, 1, 4, 1, 2, 1];
 
 const LAST: [u16; 13] = [1, 2, 3, 1, 2, 3, 1, 2, 3, 1, 2, 1, 4];
-
-fn least(a: usize, b: usize) -> usize
-    ensures { λ r. ⌜ r ≤ a ⌝ }
-    ensures { λ r. ⌜ r ≤ b ⌝ }
-{
-    if a < b { a } else { b }
-}
 
 fn answer(a: Answer) {
     show::text(b":");
@@ -92,25 +84,24 @@ fn ends() {
     edit(b"abc", 0, 3, b"", 0, 0);
 }
 
-fn refused() {
+fn places() {
     show::heading(b"refusals, with later ones true");
     edit(&[b'a'; 4097], 2, 1, &[b'b'; 257], 0, 0);
     edit(b"abc", 2, 1, &[b'b'; 257], 0, 0);
-    edit(
-        b"abc",
-        18446744073709551615,
-        18446744073709551615,
-        b"",
-        0,
-        0,
-    );
-    edit(b"abc", 0, 18446744073709551615, b"", 0, 0);
+    edit(b"abc", usize::MAX, usize::MAX, b"", 0, 0);
+    edit(b"abc", 0, usize::MAX, b"", 0, 0);
     edit(b"abc", 0, 4, b"", 0, 0);
+}
+
+fn sizes() {
     edit(&[b'a'; 4000], 0, 0, &[b'b'; 257], 0, 0);
     edit_with(&[b'a'; 4000], &[], &[], 0, 0, &[b'b'; 97], 0, 0);
     edit_with(b"abc", &[], &[], 0, 0, b"b", 0, 0);
     edit(b"acbabcabcabac", 11, 11, b"a", 1, 4);
     edit(b"acbabcabcabac", 11, 11, b"a", 2, 3);
+}
+
+fn longest() {
     show::heading(b"an edited length of 4096, a block of 256");
     edit(&[b'a'; 3840], 3840, 3840, &[b'b'; 256], 1, 1);
     edit(&[b'a'; 3841], 3841, 3841, &[b'b'; 256], 1, 1);
@@ -147,6 +138,9 @@ fn tables() {
 pub fn run() {
     sheet();
     ends();
-    refused();
+    // a function with many arrays of its own takes long to check, so the refusals have three
+    places();
+    sizes();
+    longest();
     tables();
 }

@@ -1,6 +1,5 @@
 // What the papers say of short patterns: the mark, Lyndon words, the order of bytes, and those lines of the trainer's sheet that ask these calls.
-use crate::calls;
-use crate::show;
+use show::calls;
 
 // `baab` has mark 1, `abab` has mark 0 and is no Lyndon word.
 fn marks() {

@@ -1,7 +1,6 @@
 // The examples that the source documents print, as far as they ask these calls. The sources count positions from 1, the calls from 0.
-use crate::calls;
-use crate::calls::OLD;
-use crate::show;
+use show::calls;
+use show::calls::OLD;
 
 // Source 001, section 9.4, on x = 011023122 and its reduction 021534: "L'_x[1..9] = 9, 2, 3, 9, 6, 6, 9, 8, 9" and "L'_tau(x)[1..6] =
 // 6, 2, 6, 4, 6, 6", each the last place of the longest Lyndon substring at i, counted from 1. "L[i] = L'[i] - i + 1", so the Lyndon arrays are

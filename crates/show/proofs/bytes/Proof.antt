@@ -1,12 +1,12 @@
--- `show::bytes` is safe and ends: `i` stays within the slice, and what is left of it falls.
+-- `bytes` is safe and ends: `i` stays within the slice, and what is left of it falls.
 use Prim.Native.Nat.{_≤_, _-_}
 use lib.ListN.{length}
 use borrow.Author.Needs.{needs}
-use Rattle.vectors.proofs.show.bytes.Statement.{statement}
-use Rattle.vectors.proofs.show.bytes.Tie as tie
-use Rattle.vectors.proofs.show.bytes.Reads as reads
-use Rattle.vectors.proofs.show.bytes.Lts as lts
-use Rattle.vectors.proofs.show.byte.Reads as byte-reads
+use Rattle.show.proofs.bytes.Statement.{statement}
+use Rattle.show.proofs.bytes.Tie as tie
+use Rattle.show.proofs.bytes.Reads as reads
+use Rattle.show.proofs.bytes.Lts as lts
+use Rattle.show.proofs.byte.Reads as byte-reads
 
 abbrev Inv-loop : tie.InvT-loop
 Inv-loop s i₀ i = i ≤ length s

@@ -1,6 +1,5 @@
 // Refusal 2: positions 0 and n are accepted, n + 1 and the largest are not. Nothing comes before 0 or after n, so a row of 0 entries is enough there.
-use crate::calls;
-use crate::show;
+use show::calls;
 
 fn prefixes(s: &[u8], table: &[u16]) {
     calls::factor_prefix(s, table, 0, 0);

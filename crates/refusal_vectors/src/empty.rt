@@ -1,7 +1,6 @@
 // The empty pattern, P1: no factors, longest 0, mark 0. Empty tables and rows are long enough for it, and longer ones are left as they were.
-use crate::calls;
-use crate::calls::OLD;
-use crate::show;
+use show::calls;
+use show::calls::OLD;
 
 fn answers(s: &[u8]) {
     calls::longest_word(s);

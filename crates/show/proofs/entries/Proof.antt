@@ -1,14 +1,14 @@
--- `show::entries` is safe and ends: `i` stays within the slice, and what is left of it falls.
+-- `entries` is safe and ends: `i` stays within the slice, and what is left of it falls.
 use Prim.Native.Nat.{_≤_, _-_}
 use lib.ListN.{length}
 use borrow.Author.Needs.{needs}
-use Rattle.vectors.proofs.show.entries.Statement.{statement}
-use Rattle.vectors.proofs.show.entries.Tie as tie
-use Rattle.vectors.proofs.show.entries.Reads as reads
-use Rattle.vectors.proofs.show.entries.Lts as lts
+use Rattle.show.proofs.entries.Statement.{statement}
+use Rattle.show.proofs.entries.Tie as tie
+use Rattle.show.proofs.entries.Reads as reads
+use Rattle.show.proofs.entries.Lts as lts
 use Rattle.io.proofs.print_decimal.Reads as print-decimal-reads
-use Rattle.vectors.proofs.show.text.Reads as text-reads
-use Rattle.vectors.proofs.show.wide.Reads as wide-reads
+use Rattle.show.proofs.text.Reads as text-reads
+use Rattle.show.proofs.wide.Reads as wide-reads
 
 abbrev Inv-loop : tie.InvT-loop
 Inv-loop r i₀ t3 i = i ≤ length r

@@ -1,14 +1,13 @@
 // A function for each public call: it prints the call and what is given, makes the call with a row of `room` entries, and prints the answer with
 // the row as the call leaves it. A part of the row is `[0..n]`: of `[..n]` the search does not know the length.
 ghost use Prim.Native.Nat.{_≤_};
-use crate::show;
 
 // What each entry of a row holds before a call, and the longest row.
 pub const OLD: u16 = 7777;
 
 const SPACE: usize = 4097;
 
-fn least(a: usize, b: usize) -> usize
+pub fn least(a: usize, b: usize) -> usize
     ensures { λ r. ⌜ r ≤ a ⌝ }
     ensures { λ r. ⌜ r ≤ b ⌝ }
 {
@@ -16,95 +15,95 @@ fn least(a: usize, b: usize) -> usize
 }
 
 pub fn factor(pattern: &[u8], room: usize) {
-    show::text(b"factor");
-    show::word(pattern);
+    crate::text(b"factor");
+    crate::word(pattern);
     let mut space = [OLD; SPACE];
     let n = least(room, SPACE);
     let row = &mut space[0..n];
     let a = lyndon::factor(pattern, row);
-    show::filled(a, row);
+    crate::filled(a, row);
 }
 
 pub fn lyndon_array(pattern: &[u8], room: usize) {
-    show::text(b"lyndon_array");
-    show::word(pattern);
+    crate::text(b"lyndon_array");
+    crate::word(pattern);
     let mut space = [OLD; SPACE];
     let n = least(room, SPACE);
     let row = &mut space[0..n];
     let a = lyndon::lyndon_array(pattern, row);
-    show::filled(a, row);
+    crate::filled(a, row);
 }
 
 pub fn last_factors(pattern: &[u8], room: usize) {
-    show::text(b"last_factors");
-    show::word(pattern);
+    crate::text(b"last_factors");
+    crate::word(pattern);
     let mut space = [OLD; SPACE];
     let n = least(room, SPACE);
     let row = &mut space[0..n];
     let a = lyndon::last_factors(pattern, row);
-    show::filled(a, row);
+    crate::filled(a, row);
 }
 
 pub fn longest_words(pattern: &[u8], room: usize) {
-    show::text(b"longest_words");
-    show::word(pattern);
+    crate::text(b"longest_words");
+    crate::word(pattern);
     let mut space = [OLD; SPACE];
     let n = least(room, SPACE);
     let row = &mut space[0..n];
     let a = lyndon::longest_words(pattern, row);
-    show::starts(a, row);
+    crate::starts(a, row);
 }
 
 pub fn longest_word(pattern: &[u8]) {
-    show::text(b"longest_word");
-    show::word(pattern);
-    show::text(b": part");
-    show::word(lyndon::longest_word(pattern));
-    show::text(b"\n");
+    crate::text(b"longest_word");
+    crate::word(pattern);
+    crate::text(b": part");
+    crate::word(lyndon::longest_word(pattern));
+    crate::text(b"\n");
 }
 
 pub fn is_lyndon(word: &[u8]) {
-    show::text(b"is_lyndon");
-    show::word(word);
-    show::verdict(lyndon::is_lyndon(word));
+    crate::text(b"is_lyndon");
+    crate::word(word);
+    crate::verdict(lyndon::is_lyndon(word));
 }
 
 pub fn least_rotation(pattern: &[u8]) {
-    show::text(b"least_rotation");
-    show::word(pattern);
-    show::position(lyndon::least_rotation(pattern));
+    crate::text(b"least_rotation");
+    crate::word(pattern);
+    crate::position(lyndon::least_rotation(pattern));
 }
 
 pub fn lyndon_tree(word: &[u8], room: usize) {
-    show::text(b"lyndon_tree");
-    show::word(word);
+    crate::text(b"lyndon_tree");
+    crate::word(word);
     let mut space = [OLD; SPACE];
     let n = least(room, SPACE);
     let row = &mut space[0..n];
     let a = lyndon::lyndon_tree(word, row);
-    show::filled(a, row);
+    crate::filled(a, row);
 }
 
 pub fn factor_prefix(pattern: &[u8], table: &[u16], end: usize, room: usize) {
-    show::text(b"factor_prefix");
-    show::word(pattern);
-    show::row(b"table", table);
-    show::number(b"end", end as u64);
+    crate::text(b"factor_prefix");
+    crate::word(pattern);
+    crate::row(b"table", table);
+    crate::number(b"end", end as u64);
     let mut space = [OLD; SPACE];
     let n = least(room, SPACE);
     let row = &mut space[0..n];
     let a = lyndon::factor_prefix(pattern, table, end, row);
-    show::filled(a, row);
+    crate::filled(a, row);
 }
 
 pub fn factor_suffix(pattern: &[u8], table: &[u16], start: usize, room: usize) {
-    show::text(b"factor_suffix");
-    show::word(pattern);
-    show::row(b"table", table);
-    show::number(b"start", start as u64);
+    crate::text(b"factor_suffix");
+    crate::word(pattern);
+    crate::row(b"table", table);
+    crate::number(b"start", start as u64);
     let mut space = [OLD; SPACE];
     let n = least(room, SPACE);
     let row = &mut space[0..n];
     let a = lyndon::factor_suffix(pattern, table, start, row);
-    show::filled(a, row);
+    crate::filled(a, row);
 }

@@ -1,4 +1,7 @@
-// Prints to standard output: headings, words, rows, and the answers of the calls, each number after its name.
+// Prints to standard output: headings, words, rows, and the answers of the calls, each number after its name. What prints returns nothing, so
+// there is nothing for an `ensures` to speak of. The calls themselves are made in `calls.rt`; which cases are run is left to the programs.
+pub mod calls;
+
 ghost use Prim.Native.Nat.{_<_};
 use libc::STDOUT_FILENO;
 use lyndon::Filled;
@@ -74,7 +77,9 @@ fn entries(r: &[u16]) {
 }
 
 // One number for all of a row and its order: from 0 on, each entry is added to 31 times the number so far, modulo 65,521.
-fn digest(r: &[u16]) -> u64 {
+fn digest(r: &[u16]) -> u64
+    ensures { λ d. ⌜ d < 65521 ⌝ }
+{
     let mut d = 0;
     let mut i = 0;
     while i < r.len() {

@@ -1,12 +1,12 @@
--- `show::digest` is safe and ends: `i` stays within the row, what is left of it falls, and the digest stays below its modulus.
+-- `digest` is safe and ends: `i` stays within the row, what is left of it falls, and the digest stays below its modulus.
 use Prim.Native.Nat.{_≤_, _<_, _-_}
 use lib.ListN.{length}
 use borrow.Author.Needs.{needs}
-use Rattle.vectors.proofs.show.digest.Statement.{statement}
-use Rattle.vectors.proofs.show.digest.Tie as tie
-use Rattle.vectors.proofs.show.digest.Reads as reads
-use Rattle.vectors.proofs.show.digest.Lts as lts
-use Rattle.vectors.proofs.show.wide.Reads as wide-reads
+use Rattle.show.proofs.digest.Statement.{statement}
+use Rattle.show.proofs.digest.Tie as tie
+use Rattle.show.proofs.digest.Reads as reads
+use Rattle.show.proofs.digest.Lts as lts
+use Rattle.show.proofs.wide.Reads as wide-reads
 
 abbrev Inv-loop : tie.InvT-loop
 Inv-loop r d₀ i₀ d i = (i ≤ length r) × (d < 65521)

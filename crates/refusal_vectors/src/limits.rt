@@ -1,7 +1,6 @@
 // The longest patterns: 4,096 bytes are accepted and more are refused with 1; a tree's word of 256 bytes is accepted and more are refused with 6.
-use crate::calls;
-use crate::calls::OLD;
-use crate::show;
+use show::calls;
+use show::calls::OLD;
 
 // Every call that has refusal 1. Both questions ask for the groups of the whole pattern.
 fn each_call(pattern: &[u8], table: &mut [u16]) {

@@ -1,6 +1,5 @@
 // Where several refusals hold, the smallest number is answered, and nothing is written. A heading names those that hold, case by case.
-use crate::calls;
-use crate::show;
+use show::calls;
 
 fn last_factors(s: &[u8]) {
     show::heading(b"refusals that hold: 2 5 8; 2 5; 2 8; 5 8; 8");

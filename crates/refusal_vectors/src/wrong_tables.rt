@@ -1,7 +1,6 @@
 // Refusal 5: a table that is shorter than the pattern, or one of whose first n entries is wrong, though the answer may not need it.
-use crate::calls;
-use crate::calls::OLD;
-use crate::show;
+use show::calls;
+use show::calls::OLD;
 
 // P11's tables.
 const LAST: [u16; 13] = [1, 2, 1, 2, 5, 1, 2, 1, 2, 5, 1, 2, 13];

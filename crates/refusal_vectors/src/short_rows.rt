@@ -1,7 +1,6 @@
 // Refusal 8, for each call that fills a row: a row of 0 entries, one entry too short, exact, and longer. A short row is left as it was, a longer
 // one keeps its entries past the result.
-use crate::calls;
-use crate::show;
+use show::calls;
 
 fn factor(s: &[u8]) {
     calls::factor(s, 0);

@@ -1,0 +1,18 @@
+// Runs the public calls on one pattern where they refuse, and next to it: short rows, the empty pattern, positions, wrong tables, several refusals
+// at once, the longest patterns. It prints as `vectors` does, by `show`, and its file `stdout` was computed in the same way. Edits are left to
+// `vectors`.
+mod empty;
+mod limits;
+mod order;
+mod positions;
+mod short_rows;
+mod wrong_tables;
+
+fn main() {
+    short_rows::run();
+    empty::run();
+    positions::run();
+    wrong_tables::run();
+    order::run();
+    limits::run();
+}
