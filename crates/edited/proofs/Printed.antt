@@ -11,11 +11,11 @@ use Rattle.edit.specs.declared.Counts.{Counts}
 use Rattle.edit_file.proofs.Only.{edit-only}
 use Rattle.edit_file.specs.EditFile.{EditFile}
 use Rattle.lyndon.specs.Calls.{ArrayMade, LastFactorsMade}
-use Rattle.lyndon.specs.declared.Filled.{Filled}
 use Rattle.lyndon_edit.proofs.Answered.{done-accepted}
 use Rattle.lyndon_edit.specs.Calls.{EditsNumbers}
 use Rattle.refusals.proofs.First.{First}
 use Rattle.refusals.specs.Refusals.{firstOf, maxPattern, noStretch, blockTooLong, editedTooLong}
+use Rattle.refusals.specs.declared.Filled.{Filled}
 use Rattle.text.proofs.Lines.{refusal-room}
 use Rattle.text.proofs.Puts.{puts-begins}
 use Rattle.text.specs.Listing.{editedText, refusalText, printed}

@@ -10,8 +10,8 @@ use borrow.Author.Tests.{le-ltb}
 use Rattle.edit_refusal.proofs.Passed.{passed-shape}
 use Rattle.refusals.proofs.First.{first-earlier, first-later, First, first-is, first-passes, not-long, not-short, table-right}
 use Rattle.edit_refusal.proofs.Refused.{Shaped}
-use Rattle.lyndon.specs.Calls.{Fills}
-use Rattle.lyndon.specs.declared.Filled.{Filled}
+use Rattle.refusals.specs.Filled.{Fills}
+use Rattle.refusals.specs.declared.Filled.{Filled}
 use Rattle.refusals.specs.Refusals.{editRefusals, Refusal, firstOf, rowAfter, maxPattern, patternTooLong, noStretch, blockTooLong, editedTooLong, notTable, tooShort}
 use Rattle.scan.proofs.Pass.{length-numbers}
 use Rattle.words.proofs.Bounded.{length-table}

@@ -5,9 +5,9 @@ use mathlib.Core.Path.{_≡_, refl, sym, ap, _∙_}
 use Prim.Native.Nat.{ℕ, zero, suc, _≤_, _<_}
 use native.Mathlib.Omega.{arith}
 use lib.ListN.{length, drop, length-append}
-use Rattle.lyndon.specs.declared.Filled.{Filled}
 use Rattle.lyndon_text.specs.Calls.{ListingWritten}
 use Rattle.refusals.specs.Refusals.{firstOf, rowAfter, maxPattern, patternTooLong, tooShort}
+use Rattle.refusals.specs.declared.Filled.{Filled}
 use Rattle.refusals.proofs.First.{First, first-is, too-long, not-long, not-short}
 use Rattle.text.proofs.Lengths.{listing-room}
 use Rattle.text.proofs.Lines.{refusal-room}

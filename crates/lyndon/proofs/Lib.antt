@@ -1,3 +1,2 @@
-pub mod Outcome
 pub mod Factoring
-pub mod Simple
+pub mod Made

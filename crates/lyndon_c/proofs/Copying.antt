@@ -6,7 +6,7 @@ use native.Mathlib.Numerals.{add-one}
 use native.Mathlib.Omega.{arith}
 use lib.ListN.{length, drop, getD, set, drop-of-length-le}
 use lib.Seq.{drop-cons}
-use Rattle.lyndon.proofs.Outcome.{fills-refused, fills-accepted}
+use Rattle.refusals.proofs.Outcome.{fills-refused, fills-accepted}
 use Rattle.refusals.proofs.First.{none, too-short, not-short}
 use Rattle.rows.proofs.Wrote.{Wrote, wrote-none, wrote-one, wrote-all, wrote-length}
 use Rattle.lyndon_c.specs.Copied.{Copied}

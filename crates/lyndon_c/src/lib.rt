@@ -1,17 +1,19 @@
-// The calls of `lyndon` and `lyndon_text` under C names, on numbers and slices: the answer is the refusal's number, and what else is told goes through `&mut`.
-// Each body is the call and the taking apart of its answer; include/lyndon.h declares them. Slices stand before numbers in every list of
-// parameters: a slice that got the last register and a place on the stack would not be found where Rust puts one.
+// The calls of `lyndon`, `lyndon_words`, `lyndon_parts` and `lyndon_text` under C names, on numbers and slices: the answer is the refusal's
+// number, and what else is told goes through `&mut`. Each body is the call and the taking apart of its answer; include/lyndon.h declares
+// them. Slices stand before numbers in every list of parameters: a slice that got the last register and a place on the stack would not be
+// found where Rust puts one.
 use lyndon::factor;
-use lyndon::factor_prefix;
-use lyndon::factor_suffix;
-use lyndon::is_lyndon;
 use lyndon::last_factors;
-use lyndon::least_rotation;
-use lyndon::longest_word;
-use lyndon::longest_words;
+use lyndon_parts::factor_prefix;
+use lyndon_parts::factor_suffix;
 use lyndon_text::write_listing;
-ghost use Rattle.lyndon.specs.Calls.{Factored, ArrayMade, LastFactorsMade, StartsListed, wordPart};
-ghost use Rattle.lyndon.specs.Calls.{LyndonTold, RotationFound, TreeListed, PrefixFactored, SuffixFactored};
+use lyndon_words::is_lyndon;
+use lyndon_words::least_rotation;
+use lyndon_words::longest_word;
+use lyndon_words::longest_words;
+ghost use Rattle.lyndon.specs.Calls.{Factored, ArrayMade, LastFactorsMade};
+ghost use Rattle.lyndon_words.specs.Calls.{StartsListed, wordPart, LyndonTold, RotationFound, TreeListed};
+ghost use Rattle.lyndon_parts.specs.Calls.{PrefixFactored, SuffixFactored};
 ghost use Rattle.lyndon_text.specs.Calls.{ListingWritten};
 ghost use Rattle.lyndon_c.specs.Copied.{Copied};
 
@@ -104,7 +106,7 @@ pub extern "C" fn lyndon_least_rotation(pattern: &[u8], start: &mut usize) -> u8
 pub extern "C" fn lyndon_tree(word: &[u8], nodes: &mut [u16], count: &mut usize) -> u8
     ensures { λ r. ⌜ TreeListed (now (word .entry)) (now (nodes .entry)) (now (nodes .exit)) (record { refusal = r; count = now (count .exit) }) ⌝ }
 {
-    let answer = lyndon::lyndon_tree(word, nodes);
+    let answer = lyndon_words::lyndon_tree(word, nodes);
     *count = answer.count;
     answer.refusal
 }

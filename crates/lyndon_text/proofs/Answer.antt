@@ -7,7 +7,7 @@ use native.Mathlib.Omega.{arith}
 use borrow.Author.Tests.{ltb-false}
 use lib.Dec.{ltb}
 use lib.ListN.{length}
-use Rattle.lyndon.specs.declared.Filled.{Filled}
+use Rattle.refusals.specs.declared.Filled.{Filled}
 use Rattle.refusals.specs.Refusals.{unlessRefused}
 use Rattle.text.specs.Listing.{listingText}
 use Rattle.lyndon_text.specs.Calls.{ListingWritten}

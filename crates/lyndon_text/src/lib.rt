@@ -1,5 +1,5 @@
 // The public library's listing of a pattern. It tests its refusals in number order and then calls `text`, which does the work.
-use lyndon::Filled;
+use refusals::Filled;
 use refusals::MAX_PATTERN;
 use text::listing_length;
 use text::write_text;

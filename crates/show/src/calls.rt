@@ -50,7 +50,7 @@ pub fn longest_words(pattern: &[u8], room: usize) {
     let mut space = [OLD; SPACE];
     let n = least(room, SPACE);
     let row = &mut space[0..n];
-    let a = lyndon::longest_words(pattern, row);
+    let a = lyndon_words::longest_words(pattern, row);
     crate::starts(a, row);
 }
 
@@ -58,20 +58,20 @@ pub fn longest_word(pattern: &[u8]) {
     crate::text(b"longest_word");
     crate::word(pattern);
     crate::text(b": part");
-    crate::word(lyndon::longest_word(pattern));
+    crate::word(lyndon_words::longest_word(pattern));
     crate::text(b"\n");
 }
 
 pub fn is_lyndon(word: &[u8]) {
     crate::text(b"is_lyndon");
     crate::word(word);
-    crate::verdict(lyndon::is_lyndon(word));
+    crate::verdict(lyndon_words::is_lyndon(word));
 }
 
 pub fn least_rotation(pattern: &[u8]) {
     crate::text(b"least_rotation");
     crate::word(pattern);
-    crate::position(lyndon::least_rotation(pattern));
+    crate::position(lyndon_words::least_rotation(pattern));
 }
 
 pub fn lyndon_tree(word: &[u8], room: usize) {
@@ -80,7 +80,7 @@ pub fn lyndon_tree(word: &[u8], room: usize) {
     let mut space = [OLD; SPACE];
     let n = least(room, SPACE);
     let row = &mut space[0..n];
-    let a = lyndon::lyndon_tree(word, row);
+    let a = lyndon_words::lyndon_tree(word, row);
     crate::filled(a, row);
 }
 
@@ -92,7 +92,7 @@ pub fn factor_prefix(pattern: &[u8], table: &[u16], end: usize, room: usize) {
     let mut space = [OLD; SPACE];
     let n = least(room, SPACE);
     let row = &mut space[0..n];
-    let a = lyndon::factor_prefix(pattern, table, end, row);
+    let a = lyndon_parts::factor_prefix(pattern, table, end, row);
     crate::filled(a, row);
 }
 
@@ -104,6 +104,6 @@ pub fn factor_suffix(pattern: &[u8], table: &[u16], start: usize, room: usize) {
     let mut space = [OLD; SPACE];
     let n = least(room, SPACE);
     let row = &mut space[0..n];
-    let a = lyndon::factor_suffix(pattern, table, start, row);
+    let a = lyndon_parts::factor_suffix(pattern, table, start, row);
     crate::filled(a, row);
 }

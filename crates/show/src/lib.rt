@@ -4,10 +4,10 @@ pub mod calls;
 
 ghost use Prim.Native.Nat.{_<_};
 use libc::STDOUT_FILENO;
-use lyndon::Filled;
-use lyndon::Position;
-use lyndon::Starts;
-use lyndon::Verdict;
+use lyndon_words::Position;
+use lyndon_words::Starts;
+use lyndon_words::Verdict;
+use refusals::Filled;
 
 // A word or a row of up to so many elements is printed whole.
 const WHOLE: usize = 70;

@@ -9,7 +9,7 @@ use Rattle.lyndon.proofs.factor.Reads as reads
 use Rattle.lyndon.proofs.factor.Lts as lts
 use Rattle.factoring.proofs.count_groups.Reads as count-groups-reads
 use Rattle.factoring.proofs.write_groups.Reads as write-groups-reads
-use Rattle.lyndon.proofs.refused.Reads as refused-reads
+use Rattle.refusals.proofs.refused.Reads as refused-reads
 
 refused-requires : tie.Need-refused-requires
 refused-requires c κs = search needs

@@ -3,13 +3,13 @@ use mathlib.Core.Path.{refl}
 use lib.ListN.{length}
 use Rattle.words.proofs.Tables.{last-factors-length}
 use Rattle.words.specs.Tables.{lastFactors}
-use Rattle.lyndon.proofs.Simple.{table-long, table-no-room, table-made}
+use Rattle.lyndon.proofs.Made.{table-long, table-no-room, table-made}
 use borrow.Author.Needs.{needs}
 use Rattle.lyndon.proofs.last_factors.Statement.{statement}
 use Rattle.lyndon.proofs.last_factors.Tie as tie
 use Rattle.lyndon.proofs.last_factors.Reads as reads
 use Rattle.lyndon.proofs.last_factors.Lts as lts
-use Rattle.lyndon.proofs.refused.Reads as refused-reads
+use Rattle.refusals.proofs.refused.Reads as refused-reads
 use Rattle.prefix_table.proofs.make_last_factors.Reads as make-last-factors-reads
 
 refused-requires : tie.Need-refused-requires

@@ -3,13 +3,13 @@ use mathlib.Core.Path.{refl}
 use lib.ListN.{length}
 use Rattle.words.proofs.Tables.{lyndon-array-length}
 use Rattle.words.specs.Tables.{lyndonArray}
-use Rattle.lyndon.proofs.Simple.{table-long, table-no-room, table-made}
+use Rattle.lyndon.proofs.Made.{table-long, table-no-room, table-made}
 use borrow.Author.Needs.{needs}
 use Rattle.lyndon.proofs.lyndon_array.Statement.{statement}
 use Rattle.lyndon.proofs.lyndon_array.Tie as tie
 use Rattle.lyndon.proofs.lyndon_array.Reads as reads
 use Rattle.lyndon.proofs.lyndon_array.Lts as lts
-use Rattle.lyndon.proofs.refused.Reads as refused-reads
+use Rattle.refusals.proofs.refused.Reads as refused-reads
 use Rattle.reach_table.proofs.make_lyndon_array.Reads as make-lyndon-array-reads
 
 refused-requires : tie.Need-refused-requires

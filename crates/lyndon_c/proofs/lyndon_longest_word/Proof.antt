@@ -5,7 +5,7 @@ use Rattle.lyndon_c.proofs.lyndon_longest_word.Statement.{statement}
 use Rattle.lyndon_c.proofs.lyndon_longest_word.Tie as tie
 use Rattle.lyndon_c.proofs.lyndon_longest_word.Reads as reads
 use Rattle.lyndon_c.proofs.lyndon_longest_word.Lts as lts
-use Rattle.lyndon.proofs.longest_word.Reads as longest-word-reads
+use Rattle.lyndon_words.proofs.longest_word.Reads as longest-word-reads
 use Rattle.lyndon_c.proofs.copy.Reads as copy-reads
 
 longest-word-requires : tie.Need-longest-word-requires

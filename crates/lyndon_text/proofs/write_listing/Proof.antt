@@ -1,7 +1,7 @@
 -- `lyndon_text::write_listing` meets its contract: each way out is the outcome of the first refusal that holds, or of none.
 use mathlib.Core.Path.{refl}
 use lib.ListN.{length}
-use Rattle.lyndon.proofs.Outcome.{fills-refused, fills-accepted}
+use Rattle.refusals.proofs.Outcome.{fills-refused, fills-accepted}
 use Rattle.refusals.proofs.First.{none, too-long, not-long, too-short, not-short}
 use Rattle.text.specs.Listing.{listingText}
 use borrow.Author.Needs.{needs}

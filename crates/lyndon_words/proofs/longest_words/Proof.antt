@@ -1,13 +1,13 @@
--- `lyndon::longest_words` meets its contract: each way out is the outcome of the first refusal that holds, or of none.
+-- `lyndon_words::longest_words` meets its contract: each way out is the outcome of the first refusal that holds, or of none.
 use mathlib.Core.Path.{ap}
 use Rattle.longest.specs.Best.{longestOf}
-use Rattle.lyndon.proofs.Simple.{starts-long, starts-short, starts-done}
+use Rattle.lyndon_words.proofs.Simple.{starts-long, starts-short, starts-done}
 use borrow.Author.Needs.{needs}
 use native.Mathlib.Omega.{arith}
-use Rattle.lyndon.proofs.longest_words.Statement.{statement}
-use Rattle.lyndon.proofs.longest_words.Tie as tie
-use Rattle.lyndon.proofs.longest_words.Reads as reads
-use Rattle.lyndon.proofs.longest_words.Lts as lts
+use Rattle.lyndon_words.proofs.longest_words.Statement.{statement}
+use Rattle.lyndon_words.proofs.longest_words.Tie as tie
+use Rattle.lyndon_words.proofs.longest_words.Reads as reads
+use Rattle.lyndon_words.proofs.longest_words.Lts as lts
 use Rattle.longest.proofs.measure.Reads as measure-reads
 use Rattle.longest.proofs.write_starts.Reads as write-starts-reads
 

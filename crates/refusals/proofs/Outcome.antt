@@ -2,11 +2,11 @@
 use mathlib.Core.List.{List}
 use mathlib.Core.Path.{_≡_, sym, ap, _∙_}
 use Prim.Native.Nat.{ℕ, suc}
 use Rattle.refusals.proofs.First.{First, first-is}
 use Rattle.refusals.specs.Refusals.{Refusal, unlessRefused, rowAfter}
 use Rattle.rows.specs.Row.{written}
-use Rattle.lyndon.specs.Calls.{Fills}
-use Rattle.lyndon.specs.declared.Filled.{Filled}
+use Rattle.refusals.specs.Filled.{Fills}
+use Rattle.refusals.specs.declared.Filled.{Filled}
 
 abbrev pub Refused : Filled → ℕ → Type 0
 Refused r k = (r .refusal ≡ k) × (r .count ≡ 0)

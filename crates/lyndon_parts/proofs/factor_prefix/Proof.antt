@@ -1,20 +1,20 @@
--- `lyndon::factor_prefix` meets its contract: each way out is the outcome of the first refusal that holds, or of none.
+-- `lyndon_parts::factor_prefix` meets its contract: each way out is the outcome of the first refusal that holds, or of none.
 use borrow.Author.Tests.{not-true, not-false}
 use lib.ListN.{length, take}
 use mathlib.Core.Path.{_≡_, refl, sym, _∙_}
 use Rattle.words.proofs.Order.{same-true}
 use Rattle.words.proofs.Tables.{last-factors-length}
 use Rattle.words.specs.Tables.{lastFactors, prefixGroups}
-use Rattle.lyndon.proofs.Factoring.{part-long, part-past, part-table-short, part-table-wrong, part-short, part-done}
+use Rattle.lyndon_parts.proofs.Parts.{part-long, part-past, part-table-short, part-table-wrong, part-short, part-done}
 use borrow.Author.Needs.{needs}
 use native.Mathlib.Omega.{arith}
-use Rattle.lyndon.proofs.factor_prefix.Statement.{statement}
-use Rattle.lyndon.proofs.factor_prefix.Tie as tie
-use Rattle.lyndon.proofs.factor_prefix.Reads as reads
-use Rattle.lyndon.proofs.factor_prefix.Lts as lts
+use Rattle.lyndon_parts.proofs.factor_prefix.Statement.{statement}
+use Rattle.lyndon_parts.proofs.factor_prefix.Tie as tie
+use Rattle.lyndon_parts.proofs.factor_prefix.Reads as reads
+use Rattle.lyndon_parts.proofs.factor_prefix.Lts as lts
 use Rattle.prefix_chain.proofs.count_prefix.Reads as count-prefix-reads
 use Rattle.prefix_chain.proofs.write_prefix.Reads as write-prefix-reads
-use Rattle.lyndon.proofs.refused.Reads as refused-reads
+use Rattle.refusals.proofs.refused.Reads as refused-reads
 use Rattle.prefix_table.proofs.is_last_factors.Reads as is-last-factors-reads
 
 refused-requires : tie.Need-refused-requires

@@ -1,20 +1,20 @@
--- `lyndon::factor_suffix` meets its contract: each way out is the outcome of the first refusal that holds, or of none.
+-- `lyndon_parts::factor_suffix` meets its contract: each way out is the outcome of the first refusal that holds, or of none.
 use borrow.Author.Tests.{not-true, not-false}
 use lib.ListN.{length, take}
 use mathlib.Core.Path.{_≡_, refl, sym, _∙_}
 use Rattle.words.proofs.Order.{same-true}
 use Rattle.words.proofs.Tables.{lyndon-array-length}
 use Rattle.words.specs.Tables.{lyndonArray, suffixGroups}
-use Rattle.lyndon.proofs.Factoring.{part-long, part-past, part-table-short, part-table-wrong, part-short, part-done}
+use Rattle.lyndon_parts.proofs.Parts.{part-long, part-past, part-table-short, part-table-wrong, part-short, part-done}
 use borrow.Author.Needs.{needs}
 use native.Mathlib.Omega.{arith}
-use Rattle.lyndon.proofs.factor_suffix.Statement.{statement}
-use Rattle.lyndon.proofs.factor_suffix.Tie as tie
-use Rattle.lyndon.proofs.factor_suffix.Reads as reads
-use Rattle.lyndon.proofs.factor_suffix.Lts as lts
+use Rattle.lyndon_parts.proofs.factor_suffix.Statement.{statement}
+use Rattle.lyndon_parts.proofs.factor_suffix.Tie as tie
+use Rattle.lyndon_parts.proofs.factor_suffix.Reads as reads
+use Rattle.lyndon_parts.proofs.factor_suffix.Lts as lts
 use Rattle.suffix_chain.proofs.count_suffix.Reads as count-suffix-reads
 use Rattle.suffix_chain.proofs.write_suffix.Reads as write-suffix-reads
-use Rattle.lyndon.proofs.refused.Reads as refused-reads
+use Rattle.refusals.proofs.refused.Reads as refused-reads
 use Rattle.reach_table.proofs.is_lyndon_array.Reads as is-lyndon-array-reads
 
 refused-requires : tie.Need-refused-requires

@@ -1,5 +1,5 @@
--- What the calls that make a table, list the longest words, tell of a word, find the least rotation and list a tree make of the facts
--- that their ways out show.
+-- What the calls that list the longest words, tell of a word, find the least rotation and list a tree make of the facts that their
+-- ways out show.
 use mathlib.Core.Bool.{Bool, true, false}
 use mathlib.Core.List.{List, [], _∷_, _++_, append-nil}
 use mathlib.Core.Logic.{_⊎_, inl, inr}
@@ -11,7 +11,9 @@ use lib.ListN.{length, take, drop, replicate, length-append}
 use lib.Seq.{take-all, take-at, take-length, take-append-seam, length-take-le}
 use borrow.Author.Tests.{eq-eqb, ne-eqb, lt-ltb, le-ltb}
 use Rattle.refusals.proofs.First.{First, none, holds, passes, first-is, too-long, not-long, too-short, not-short}
+use Rattle.refusals.proofs.Outcome.{Refused, fills-refused, fills-accepted}
 use Rattle.refusals.specs.Refusals.{unlessRefused, rowAfter, patternTooLong, wordTooLong, notLyndon, tooShort}
+use Rattle.refusals.specs.declared.Filled.{Filled}
 use Rattle.rows.specs.Row.{written, writtenAt}
 use Rattle.scan.proofs.Next.{next-words}
 use Rattle.scan.proofs.Pass.{length-fits}
@@ -27,24 +29,8 @@ use Rattle.words.specs.Order.{Lyndon, lyndon}
 use Rattle.words.specs.Rotation.{leastRotation}
 use Rattle.words.specs.Tables.{LyndonAt, lyndonStarts, longest, longestStarts, longestWord}
 use Rattle.words.specs.Tree.{treeNodes, nodeNumbers}
-use Rattle.lyndon.specs.Calls.{Fills, StartsListed, wordPart, LyndonTold, RotationFound, TreeListed}
-use Rattle.lyndon.specs.declared.Filled.{Filled}
-use Rattle.lyndon.specs.declared.Verdict.{Verdict}
-use Rattle.lyndon.proofs.Outcome.{Refused, fills-refused, fills-accepted}
-
--- a table of n entries, n the pattern's length
-module _ (s def row : List ℕ) (size : length def ≡ length s) (r : Filled) where
-  abbrev Made : List ℕ → Type 0
-  Made row′ = Fills (patternTooLong s ∷ tooShort (length def) (length row) ∷ []) def (length s) row row′ r
-
-  pub table-long : 4096 < length s → Refused r 1 → Made row
-  table-long h q = fills-refused (too-long s h) q
-
-  pub table-no-room : length s ≤ 4096 → length row < length s → Refused r 8 → Made row
-  table-no-room h l q = fills-refused (not-long s h (too-short (length def) (length row) (omega (arith, size)))) q
-
-  pub table-made : {row′ : List ℕ} → length s ≤ 4096 → length s ≤ length row → r .refusal ≡ 0 → r .count ≡ length s → row′ ≡ written def row → Made row′
-  table-made h l p q w = fills-accepted (not-long s h (not-short (length def) (length row) (omega (arith, size)) none)) p q w
+use Rattle.lyndon_words.specs.Calls.{StartsListed, wordPart, LyndonTold, RotationFound, TreeListed}
+use Rattle.lyndon_words.specs.declared.Verdict.{Verdict}
 
 -- longest_words
 module _ (s row : List ℕ) where

@@ -1,18 +1,18 @@
--- `lyndon::lyndon_tree` meets its contract: each way out is the outcome of the first refusal that holds, or of none.
+-- `lyndon_words::lyndon_tree` meets its contract: each way out is the outcome of the first refusal that holds, or of none.
 use borrow.Author.Tests.{not-true, not-false}
 use Prim.Native.Nat.{_*_, _-_}
 use lib.ListN.{length}
 use mathlib.Core.Path.{_≡_, refl, sym, _∙_}
 use Rattle.words.proofs.Lyndon.{lyndon-true}
-use Rattle.lyndon.proofs.Simple.{told-yes, tree-long, tree-not-lyndon, tree-short, tree-done, tree-word}
+use Rattle.lyndon_words.proofs.Simple.{told-yes, tree-long, tree-not-lyndon, tree-short, tree-done, tree-word}
 use borrow.Author.Needs.{needs}
 use native.Mathlib.Omega.{arith}
-use Rattle.lyndon.proofs.lyndon_tree.Statement.{statement}
-use Rattle.lyndon.proofs.lyndon_tree.Tie as tie
-use Rattle.lyndon.proofs.lyndon_tree.Reads as reads
-use Rattle.lyndon.proofs.lyndon_tree.Lts as lts
-use Rattle.lyndon.proofs.is_lyndon.Reads as is-lyndon-reads
-use Rattle.lyndon.proofs.refused.Reads as refused-reads
+use Rattle.lyndon_words.proofs.lyndon_tree.Statement.{statement}
+use Rattle.lyndon_words.proofs.lyndon_tree.Tie as tie
+use Rattle.lyndon_words.proofs.lyndon_tree.Reads as reads
+use Rattle.lyndon_words.proofs.lyndon_tree.Lts as lts
+use Rattle.lyndon_words.proofs.is_lyndon.Reads as is-lyndon-reads
+use Rattle.refusals.proofs.refused.Reads as refused-reads
 use Rattle.tree.proofs.write_nodes.Reads as write-nodes-reads
 
 refused-requires : tie.Need-refused-requires

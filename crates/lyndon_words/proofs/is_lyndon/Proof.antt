@@ -1,10 +1,10 @@
--- `lyndon::is_lyndon` meets its contract: a nonempty string is a Lyndon word exactly when its first factor is the whole of it.
-use Rattle.lyndon.proofs.Simple.{told-long, told, empty-not-lyndon, whole-lyndon}
+-- `lyndon_words::is_lyndon` meets its contract: a nonempty string is a Lyndon word exactly when its first factor is the whole of it.
+use Rattle.lyndon_words.proofs.Simple.{told-long, told, empty-not-lyndon, whole-lyndon}
 use borrow.Author.Needs.{needs}
-use Rattle.lyndon.proofs.is_lyndon.Statement.{statement}
-use Rattle.lyndon.proofs.is_lyndon.Tie as tie
-use Rattle.lyndon.proofs.is_lyndon.Reads as reads
-use Rattle.lyndon.proofs.is_lyndon.Lts as lts
+use Rattle.lyndon_words.proofs.is_lyndon.Statement.{statement}
+use Rattle.lyndon_words.proofs.is_lyndon.Tie as tie
+use Rattle.lyndon_words.proofs.is_lyndon.Reads as reads
+use Rattle.lyndon_words.proofs.is_lyndon.Lts as lts
 use Rattle.scan.proofs.next_group.Reads as next-group-reads
 
 returns : tie.Need-returns

@@ -1,14 +1,14 @@
--- `lyndon::longest_word` meets its contract: the measured word is the first of the longest, and lies within the pattern.
+-- `lyndon_words::longest_word` meets its contract: the measured word is the first of the longest, and lies within the pattern.
 use Prim.Native.Nat.{_+_, _-_}
 use mathlib.Core.Path.{_≡_, ap}
 use Rattle.longest.specs.Best.{longestOf}
-use Rattle.lyndon.proofs.Simple.{word-long, word-part, word-within}
+use Rattle.lyndon_words.proofs.Simple.{word-long, word-part, word-within}
 use borrow.Author.Needs.{needs}
 use native.Mathlib.Omega.{arith}
-use Rattle.lyndon.proofs.longest_word.Statement.{statement}
-use Rattle.lyndon.proofs.longest_word.Tie as tie
-use Rattle.lyndon.proofs.longest_word.Reads as reads
-use Rattle.lyndon.proofs.longest_word.Lts as lts
+use Rattle.lyndon_words.proofs.longest_word.Statement.{statement}
+use Rattle.lyndon_words.proofs.longest_word.Tie as tie
+use Rattle.lyndon_words.proofs.longest_word.Reads as reads
+use Rattle.lyndon_words.proofs.longest_word.Lts as lts
 use Rattle.longest.proofs.measure.Reads as measure-reads
 
 slice-aggregate-result : tie.Need-slice-aggregate-result

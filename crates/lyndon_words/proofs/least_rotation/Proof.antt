@@ -1,14 +1,14 @@
--- `lyndon::least_rotation` meets its contract: the buffer's front is the pattern twice, of which `least_start` answers.
+-- `lyndon_words::least_rotation` meets its contract: the buffer's front is the pattern twice, of which `least_start` answers.
 use lib.ListN.{length, length-append}
 use mathlib.Core.Path.{ap, _∙_}
 use Rattle.words.specs.Rotation.{leastRotation}
-use Rattle.lyndon.proofs.Simple.{rotation-long, rotation-found, twice-is, twice-front}
+use Rattle.lyndon_words.proofs.Simple.{rotation-long, rotation-found, twice-is, twice-front}
 use borrow.Author.Needs.{needs}
 use native.Mathlib.Omega.{arith}
-use Rattle.lyndon.proofs.least_rotation.Statement.{statement}
-use Rattle.lyndon.proofs.least_rotation.Tie as tie
-use Rattle.lyndon.proofs.least_rotation.Reads as reads
-use Rattle.lyndon.proofs.least_rotation.Lts as lts
+use Rattle.lyndon_words.proofs.least_rotation.Statement.{statement}
+use Rattle.lyndon_words.proofs.least_rotation.Tie as tie
+use Rattle.lyndon_words.proofs.least_rotation.Reads as reads
+use Rattle.lyndon_words.proofs.least_rotation.Lts as lts
 use Rattle.rotation.proofs.double.Reads as double-reads
 use Rattle.rotation.proofs.least_start.Reads as least-start-reads
 

@@ -1,0 +1,45 @@
+-- What the calls for words, rotation and tree answer and leave in the lent row, for every input: the refusals in their order, then the result.
+use mathlib.Core.Bool.{false}
+use mathlib.Core.List.{List, [], _∷_}
+use mathlib.Core.Path.{_≡_}
+use Prim.Native.Nat.{ℕ}
+use lib.ListN.{length, take, drop}
+use Rattle.words.specs.Order.{lyndon}
+use Rattle.words.specs.Tables.{longest, longestStarts, longestWord}
+use Rattle.words.specs.Rotation.{leastRotation}
+use Rattle.words.specs.Tree.{treeNodes, nodeNumbers}
+use Rattle.refusals.specs.Filled.{Fills}
+use Rattle.refusals.specs.Refusals.{Refusal, firstOf, unlessRefused, rowAfter, patternTooLong, wordTooLong, notLyndon, tooShort}
+use Rattle.refusals.specs.declared.Filled.{Filled}
+use Rattle.lyndon_words.specs.declared.Starts.{Starts}
+use Rattle.lyndon_words.specs.declared.Verdict.{Verdict}
+use Rattle.lyndon_words.specs.declared.Position.{Position}
+
+-- longest_words
+abbrev pub startsRefusals : List ℕ → List ℕ → List Refusal
+startsRefusals s row = patternTooLong s ∷ tooShort (length (longestStarts s)) (length row) ∷ []
+
+pub record StartsListed (s row row′ : List ℕ) (r : Starts) : Type 0 where
+  pub refusal : r .refusal ≡ firstOf (startsRefusals s row)
+  pub length : r .length ≡ unlessRefused (firstOf (startsRefusals s row)) (longest s) 0
+  pub count : r .count ≡ unlessRefused (firstOf (startsRefusals s row)) (lib.ListN.length (longestStarts s)) 0
+  pub leaves : row′ ≡ rowAfter (firstOf (startsRefusals s row)) (longestStarts s) row
+
+-- longest_word: the part of the pattern, the empty one where it is refused
+abbrev pub wordPart : List ℕ → List ℕ
+wordPart s = unlessRefused (firstOf (patternTooLong s ∷ [])) (take (longestWord s .1) (drop (longestWord s .0) s)) []
+
+-- is_lyndon
+pub record LyndonTold (w : List ℕ) (r : Verdict) : Type 0 where
+  pub refusal : r .refusal ≡ firstOf (patternTooLong w ∷ [])
+  pub yes : r .yes ≡ unlessRefused (firstOf (patternTooLong w ∷ [])) (lyndon w) false
+
+-- least_rotation
+pub record RotationFound (s : List ℕ) (r : Position) : Type 0 where
+  pub refusal : r .refusal ≡ firstOf (patternTooLong s ∷ [])
+  pub start : r .start ≡ unlessRefused (firstOf (patternTooLong s ∷ [])) (leastRotation s) 0
+
+-- lyndon_tree
+abbrev pub TreeListed : List ℕ → List ℕ → List ℕ → Filled → Type 0
+TreeListed w row row′ r =
+    Fills (wordTooLong w ∷ notLyndon w ∷ tooShort (length (nodeNumbers (treeNodes 0 w))) (length row) ∷ []) (nodeNumbers (treeNodes 0 w)) (length (treeNodes 0 w)) row row′ r

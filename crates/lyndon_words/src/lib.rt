@@ -1,0 +1,134 @@
+// The public library on one pattern: longest words, whether a string is a Lyndon word, least rotation, tree. Factors and tables are `lyndon`.
+// Each call tests its refusals in number order and then calls the crate that does the work; none of them requires anything.
+use longest::measure;
+use longest::write_starts;
+use refusals::Filled;
+use refusals::MAX_PATTERN;
+use refusals::MAX_TREE;
+use refusals::refused;
+use rotation::double;
+use rotation::least_start;
+use scan::next_group;
+use tree::write_nodes;
+ghost use mathlib.Core.Path.{_≡_};
+ghost use Rattle.lyndon_words.specs.Calls.{StartsListed, wordPart, LyndonTold, RotationFound, TreeListed};
+
+// The answer about the longest words: their length, and how many starts were written.
+pub struct Starts {
+    pub refusal: u8,
+    pub length: usize,
+    pub count: usize,
+}
+
+pub struct Verdict {
+    pub refusal: u8,
+    pub yes: bool,
+}
+
+pub struct Position {
+    pub refusal: u8,
+    pub start: usize,
+}
+
+// The length of the longest Lyndon substrings, and all their starts. Refusals 1, 8.
+pub fn longest_words(pattern: &[u8], starts: &mut [u16]) -> Starts
+    ensures { λ r. ⌜ StartsListed (now (pattern .entry)) (now (starts .entry)) (now (starts .exit)) r ⌝ }
+{
+    if MAX_PATTERN < pattern.len() {
+        return Starts {
+            refusal: 1,
+            length: 0,
+            count: 0,
+        };
+    }
+    let found = measure(pattern);
+    let length = found.length;
+    let count = found.count;
+    if starts.len() < count {
+        return Starts {
+            refusal: 8,
+            length: 0,
+            count: 0,
+        };
+    }
+    write_starts(pattern, length, starts);
+    Starts {
+        refusal: 0,
+        length,
+        count,
+    }
+}
+
+// The first of the longest Lyndon substrings, as a part of the pattern; the empty part where the pattern is too long.
+pub fn longest_word(pattern: &[u8]) -> &[u8]
+    ensures { λ r. ⌜ now r ≡ wordPart (now (pattern .entry)) ⌝ }
+{
+    if MAX_PATTERN < pattern.len() {
+        return &pattern[..0];
+    }
+    let found = measure(pattern);
+    let start = found.start;
+    let end = start + found.length;
+    &pattern[start..end]
+}
+
+// Whether the string is a Lyndon word. Refusal 1.
+pub fn is_lyndon(word: &[u8]) -> Verdict
+    ensures { λ r. ⌜ LyndonTold (now (word .entry)) r ⌝ }
+{
+    if MAX_PATTERN < word.len() {
+        return Verdict {
+            refusal: 1,
+            yes: false,
+        };
+    }
+    if word.len() == 0 {
+        return Verdict {
+            refusal: 0,
+            yes: false,
+        };
+    }
+    let first = next_group(word, 0);
+    Verdict {
+        refusal: 0,
+        yes: first.length == word.len(),
+    }
+}
+
+// The smallest start of a least rotation, 0 for the empty pattern. Refusal 1.
+pub fn least_rotation(pattern: &[u8]) -> Position
+    ensures { λ r. ⌜ RotationFound (now (pattern .entry)) r ⌝ }
+{
+    let n = pattern.len();
+    if MAX_PATTERN < n {
+        return Position {
+            refusal: 1,
+            start: 0,
+        };
+    }
+    let mut twice = [0u8; 8192];
+    double(pattern, &mut twice);
+    let end = 2 * n;
+    let start = least_start(&twice[..end], n);
+    Position { refusal: 0, start }
+}
+
+// The nodes of the Lyndon tree, two numbers each: start, length. Refusals 6, 7, 8.
+pub fn lyndon_tree(word: &[u8], nodes: &mut [u16]) -> Filled
+    ensures { λ r. ⌜ TreeListed (now (word .entry)) (now (nodes .entry)) (now (nodes .exit)) r ⌝ }
+{
+    let n = word.len();
+    if MAX_TREE < n {
+        return refused(6);
+    }
+    let verdict = is_lyndon(word);
+    if !verdict.yes {
+        return refused(7);
+    }
+    let count = 2 * n - 1;
+    if nodes.len() < 2 * count {
+        return refused(8);
+    }
+    write_nodes(word, 0, n, nodes, 0);
+    Filled { refusal: 0, count }
+}
