@@ -1,11 +1,11 @@
 -- The Lyndon array of the first factors joined: its entries are those of the whole pattern, since no Lyndon substring crosses the end of a
 -- factor from a place before it.
-use mathlib.Core.List.{List, [], _∷_, _++_}
+use mathlib.Core.List.{List, _∷_, _++_}
 use mathlib.Core.Logic.{_⊎_, inl, inr}
-use mathlib.Core.Path.{_≡_, refl, sym, ap, _∙_}
+use mathlib.Core.Path.{_≡_, sym, ap, _∙_}
 use Prim.Native.Nat.{ℕ, suc, _+_, _-_, _≤_, _<_}
 use native.Mathlib.Omega.{arith}
-use lib.ListN.{length, take, drop, getD, length-append, take-append-drop}
+use lib.ListN.{length, take, drop, length-append, take-append-drop}
 use lib.Seq.{ext-getD, getD-take, length-take-le, take-take, take-append-seam, drop-append-seam}
 use Rattle.words.proofs.Below.{drop-take}
 use Rattle.words.proofs.Bounded.{le-or-lt}

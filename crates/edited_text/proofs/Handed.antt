@@ -1,20 +1,19 @@
 -- What the answer to an edit hands to the writer of the parts: the kept part with its table, the middle groups in their row, and the stored
 -- ending at its place.
 use mathlib.Core.List.{List}
-use mathlib.Core.Path.{_≡_, refl, sym, ap, _∙_}
-use Prim.Native.Nat.{ℕ, _+_, _-_, _*_, _≤_}
+use mathlib.Core.Path.{_≡_, sym, ap, _∙_}
+use Prim.Native.Nat.{ℕ, _-_, _*_, _≤_}
 use native.Mathlib.Omega.{arith}
 use lib.ListN.{length, take, drop}
-use Rattle.edit.specs.Core.{countsOf}
 use Rattle.edit.specs.declared.Counts.{Counts}
 use Rattle.scan.proofs.Pass.{length-numbers}
 use Rattle.words.proofs.Edit.{kept-same, resume-rest, length-edited}
 use Rattle.words.proofs.EditParts.{end-le, take-end}
 use Rattle.words.specs.Edit.{edited, kept, resume, middleGroups}
-use Rattle.words.specs.Factors.{join, factors, startAt, groupNumbers}
-use Rattle.words.specs.Tables.{lyndonArray, suffixGroups}
+use Rattle.words.specs.Factors.{join, groupNumbers}
+use Rattle.words.specs.Tables.{lyndonArray}
 use Rattle.edited_text.specs.Answered.{Answered}
-use Rattle.edited_text.specs.Parts.{Joined, Parted, Stands, Ahead}
+use Rattle.edited_text.specs.Parts.{Joined, Parted, Ahead}
 use Rattle.edited_text.proofs.Front.{array-front}
 use Rattle.edited_text.proofs.Meeting.{resume-def, resume-after, groups-def}
 use Rattle.edited_text.proofs.Parted.{parts-order, parts-fit, second-part, kept-end}

@@ -7,7 +7,6 @@ use suffix_chain::group_at;
 use text::write_header;
 use text::write_line;
 ghost use Prim.Native.Nat.{_≤_};
-ghost use mathlib.Core.Path.{_≡_};
 ghost use lib.ListN.{length};
 ghost use Rattle.text.specs.Listing.{lines, editedText};
 ghost use Rattle.text.specs.Written.{Room, Puts};

@@ -25,16 +25,16 @@ pub fn factor(pattern: &[u8], groups: &mut [u16]) -> Filled
 }
 
 // The reach table: entry i is the length of the longest Lyndon substring that starts at i. Refusals 1, 8.
-pub fn lyndon_array(pattern: &[u8], table: &mut [u16]) -> Filled
-    ensures { λ r. ⌜ ArrayMade (now (pattern .entry)) (now (table .entry)) (now (table .exit)) r ⌝ }
+pub fn lyndon_array(pattern: &[u8], array: &mut [u16]) -> Filled
+    ensures { λ r. ⌜ ArrayMade (now (pattern .entry)) (now (array .entry)) (now (array .exit)) r ⌝ }
 {
     if MAX_PATTERN < pattern.len() {
         return refused(1);
     }
-    if table.len() < pattern.len() {
+    if array.len() < pattern.len() {
         return refused(8);
     }
-    make_lyndon_array(pattern, table);
+    make_lyndon_array(pattern, array);
     Filled {
         refusal: 0,
         count: pattern.len(),
@@ -42,16 +42,16 @@ pub fn lyndon_array(pattern: &[u8], table: &mut [u16]) -> Filled
 }
 
 // The prefix table: entry q - 1 is the length of the last factor of the first q bytes. Refusals 1, 8.
-pub fn last_factors(pattern: &[u8], table: &mut [u16]) -> Filled
-    ensures { λ r. ⌜ LastFactorsMade (now (pattern .entry)) (now (table .entry)) (now (table .exit)) r ⌝ }
+pub fn last_factors(pattern: &[u8], last: &mut [u16]) -> Filled
+    ensures { λ r. ⌜ LastFactorsMade (now (pattern .entry)) (now (last .entry)) (now (last .exit)) r ⌝ }
 {
     if MAX_PATTERN < pattern.len() {
         return refused(1);
     }
-    if table.len() < pattern.len() {
+    if last.len() < pattern.len() {
         return refused(8);
     }
-    make_last_factors(pattern, table);
+    make_last_factors(pattern, last);
     Filled {
         refusal: 0,
         count: pattern.len(),

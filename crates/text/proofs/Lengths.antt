@@ -1,19 +1,19 @@
 -- The lengths of words, lines and listings, and a buffer length that always suffices.
 use mathlib.Core.List.{List, [], _∷_, _++_}
-use mathlib.Core.Path.{_≡_, refl, sym, ap, _∙_}
+use mathlib.Core.Path.{_≡_, refl, ap, _∙_}
 use Prim.Native.Nat.{ℕ, zero, suc, _+_, _-_, _*_, _^_, _≤_, _<_}
-use native.Mathlib.Nat.{mul-le-mul-left, mul-le-mul-right}
+use native.Mathlib.Nat.{mul-le-mul-right}
 use native.Mathlib.Omega.{arith}
 use lib.ListN.{length, take, drop, replicate, length-append, length-take, length-drop, length-replicate}
 use Rattle.hex.specs.Hex.{pairOf}
 use Rattle.scan.proofs.Next.{groups-start}
 use Rattle.words.specs.Factors.{join, factors, Group, groupsFrom}
 use Rattle.words.specs.Tables.{groups, suffixGroups}
-use Rattle.words.proofs.Factors.{join-append, join-factors, factors-falling}
+use Rattle.words.proofs.Factors.{join-factors, factors-falling}
 use Rattle.words.proofs.EditParts.{end-apart, end-all}
 use Rattle.words.proofs.Groups.{Packed, none, more, packed, groups-most}
 use Rattle.text.specs.Decimal.{codes, digitCount, decimal, hexadecimal}
-use Rattle.text.specs.Listing.{header, lineEnd, field, line, lines, listingText}
+use Rattle.text.specs.Listing.{header, field, line, lines, listingText}
 use Rattle.text.proofs.Decimal.{length-decimal, count-least}
 
 pub length-hexadecimal : (w : List ℕ) → length (hexadecimal w) ≡ 2 * length w

@@ -3,9 +3,9 @@ use mathlib.Core.List.{List, [], _∷_, _++_, append-assoc, append-nil}
 use mathlib.Core.Path.{_≡_, refl, sym, ap, _∙_}
 use Prim.Native.Nat.{ℕ, suc, _+_, _≤_, _<_}
 use native.Mathlib.Omega.{arith}
-use lib.ListN.{length, take, drop, set, length-append, length-take, length-drop, length-set, take-append-drop}
+use lib.ListN.{length, take, drop, set, length-append, length-take, length-drop, take-append-drop}
 use lib.Seq.{drop-drop, drop-at, length-take-le, set-split, take-set-le}
-use Rattle.rows.specs.Row.{written, writtenAt}
+use Rattle.rows.specs.Row.{writtenAt}
 use Rattle.rows.proofs.Wrote.{Wrote, wrote-all, set-written}
 use Rattle.rows.proofs.Written.{written-append}
 use Rattle.text.specs.Listing.{Begins}

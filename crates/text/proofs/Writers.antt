@@ -1,16 +1,16 @@
 -- One turn of each loop that writes: a digit, a byte, a byte's two digits, a line.
 use mathlib.Core.List.{List, [], _∷_, _++_}
 use mathlib.Core.Path.{_≡_, refl, sym, ap, _∙_}
-use Prim.Native.Nat.{ℕ, suc, _+_, _-_, _*_, _/_, _%_, _≤_, _<_}
+use Prim.Native.Nat.{ℕ, suc, _+_, _-_, _/_, _%_, _≤_, _<_}
 use native.Mathlib.Numerals.{add-one}
 use native.Mathlib.Omega.{arith}
-use lib.ListN.{length, take, drop, getD, set, length-drop, length-set, drop-of-length-le}
+use lib.ListN.{length, drop, getD, set, length-drop, length-set, drop-of-length-le}
 use lib.Seq.{drop-cons}
 use Rattle.hex.specs.Hex.{pairOf}
 use Rattle.rows.specs.Row.{writtenAt}
 use Rattle.rows.proofs.Wrote.{Wrote, wrote-one, wrote-room}
 use Rattle.text.specs.Decimal.{lastDigits, decimal, digitCount, hexadecimal}
-use Rattle.text.specs.Written.{Room, Puts}
+use Rattle.text.specs.Written.{Room}
 use Rattle.text.proofs.Decimal.{length-last, length-decimal}
 use Rattle.text.proofs.Puts.{written-none, written-last}
 

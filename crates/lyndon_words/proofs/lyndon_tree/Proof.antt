@@ -2,7 +2,7 @@
 use borrow.Author.Tests.{not-true, not-false}
 use Prim.Native.Nat.{_*_, _-_}
 use lib.ListN.{length}
-use mathlib.Core.Path.{_≡_, refl, sym, _∙_}
+use mathlib.Core.Path.{refl, sym, _∙_}
 use Rattle.words.proofs.Lyndon.{lyndon-true}
 use Rattle.lyndon_words.proofs.Simple.{told-yes, tree-long, tree-not-lyndon, tree-short, tree-done, tree-word}
 use borrow.Author.Needs.{needs}

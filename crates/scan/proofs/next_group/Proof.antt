@@ -1,7 +1,6 @@
 -- `scan::next_group` meets its contract: the loop keeps the state of Duval's scan, and where it stops the group is read off.
 use mathlib.Core.Logic.{⊎-elim}
-use mathlib.Core.Path.{_≡_, sym}
-use Prim.Native.Nat.{_-_, _+_}
+use Prim.Native.Nat.{_-_}
 use lib.ListN.{length}
 use Rattle.words.proofs.Scan.{Scan, scan-start}
 use Rattle.scan.proofs.Next.{next-group, turn-same, turn-up, stop-smaller, stop-end}

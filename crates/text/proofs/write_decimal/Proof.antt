@@ -1,7 +1,4 @@
 -- `text::write_decimal` meets its contract: each turn puts the last digit of what is left before the digits that stand.
-use mathlib.Core.Path.{refl}
-use Rattle.text.specs.Decimal.{decimal}
-use Rattle.text.proofs.Decimal.{length-decimal}
 use Rattle.text.proofs.Writers.{Spelling, spelling-none, spelling-one, spelling-all}
 use borrow.Author.Needs.{needs}
 use native.Mathlib.Omega.{arith}
