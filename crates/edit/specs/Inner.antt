@@ -1,4 +1,4 @@
--- What the core and the functions below it are stated by: the answer with the groups as numbers.
+-- What `fill`, `count_of` and `edit_core::core` are stated by: the answer with the groups as numbers.
 use mathlib.Core.List.{List, [], _∷_}
 use Prim.Native.Nat.{ℕ}
 use lib.ListN.{length}

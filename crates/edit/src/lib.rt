@@ -1,5 +1,5 @@
 // The answer to an accepted edit of a stored pattern, on rows of plain numbers: measured, held against the room in both rows, and written.
-// The refusals 1 to 5 and the edited pattern are left to the core above, the kind of row that takes the groups to the calls.
+// The refusals 1 to 5 and the edited pattern are left to `edit_core`, the kind of row that takes the groups to the calls.
 use factoring::count_groups;
 use factoring::write_groups;
 use longest::measure;
@@ -35,7 +35,7 @@ pub fn count_of(a: Answer) -> usize
     }
 }
 
-// Measures the result, tests refusal 8 for both rows, and writes them.
+// Measures the result, tests refusal 8 for both rows, and writes them; for `edit_core`.
 pub fn fill(
     pattern: &[u8],
     table: &[u16],

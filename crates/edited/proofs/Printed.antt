@@ -93,9 +93,3 @@ module _ (s b csv : List ℕ) {d d′ : List ℕ} {n : ℕ} where
             };
         begins = puts-begins p;
       }
-
--- what is printed lies within the buffer
-pub output-within : {s b csv d d′ : List ℕ} {n : ℕ} → Prints s b csv d d′ n → n ≤ length d′
-output-within {s} {b} {csv} {d} p =
-    let q = p .begins in
-    omega (arith, q .size, ap length (q .leaves), length-append (p .out) (drop (length (p .out)) d))

@@ -1,2 +1,3 @@
+-- Reading order: Output; Refusal is for an inner function.
 pub mod Output
 pub mod Refusal

@@ -15,7 +15,7 @@ ghost use Rattle.edited_text.specs.Answered.{Answered};
 ghost use Rattle.edited_text.specs.Parts.{Ahead, Joined, Parted, Stands, partsText};
 
 // Where the kept factors end and the resumed ones start, as places in the edited pattern.
-pub struct Seams {
+pub struct Middle {
     pub end: usize,
     pub place: usize,
 }
@@ -29,7 +29,7 @@ fn joints(
     block: &[u8],
     answer: Counts,
     middle: &[u16],
-) -> Seams
+) -> Middle
     requires { ⌜ Answered (now pattern) (now array) from to (now block) answer (now middle) ⌝ }
     ensures { λ r. ⌜ Joined (now (pattern .entry)) from to (now (block .entry)) (r .end) (r .place) ⌝ }
 {
@@ -37,10 +37,10 @@ fn joints(
     let groups = answer.groups;
     let place = from + block.len() + (resume - to);
     if groups == 0 {
-        return Seams { end: place, place };
+        return Middle { end: place, place };
     }
     let end = middle[0] as usize;
-    Seams { end, place }
+    Middle { end, place }
 }
 
 // Writes the lines of t's groups from `place` on, where the part of s from `start` on stands; the array is that of s.

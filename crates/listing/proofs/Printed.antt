@@ -65,7 +65,3 @@ module _ (s d : List ℕ) {d′ : List ℕ} {r : Filled} (w : ListingWritten s d
         size = w .count ∙ rw (z, sym number ∙ z);
         leaves = w .leaves ∙ rw (z, sym number ∙ z);
       }
-
--- what is printed lies within the buffer
-pub output-within : (s : List ℕ) {d d′ : List ℕ} {n : ℕ} → Begins (output s) d d′ n → n ≤ length d′
-output-within s {d} p = omega (arith, p .size, ap length (p .leaves), length-append (output s) (drop (length (output s)) d))

@@ -1,4 +1,4 @@
-// The table of last factors of a pattern, made into a row and tested against a row of any content, in place and along Duval's scan.
+// The prefix table of a pattern, the lengths of its last factors, made into a row and tested against a row of any content, in place and along Duval's scan.
 // That a row is long enough is the caller's concern.
 ghost use mathlib.Core.Path.{_≡_};
 ghost use Prim.Native.Nat.{_≤_};

@@ -1,4 +1,4 @@
-// The Lyndon array of a pattern, made into a row and tested against a row of any content, in place and from the right.
+// The reach table of a pattern, which is its Lyndon array, made into a row and tested against a row of any content, in place and from the right.
 // That a row is long enough is the caller's concern.
 use scan::precedes;
 ghost use mathlib.Core.Path.{_≡_};

@@ -1,2 +1,3 @@
+-- Reading order: Refusals, Filled.
 pub mod Refusals
 pub mod Filled

@@ -17,6 +17,7 @@ pub struct Filled {
     pub count: usize,
 }
 
+// What such a call answers where this number refuses it; for the crates of the calls.
 pub fn refused(number: u8) -> Filled
     ensures { λ r. ⌜ (r .refusal ≡ number) × (r .count ≡ 0) ⌝ }
 {

@@ -2,13 +2,21 @@
 use mathlib.Core.List.{List, [], _∷_}
 use mathlib.Core.Path.{_≡_, refl, ap}
 use Prim.Native.Nat.{ℕ, _+_, _*_, _≤_, _<_}
-use native.Mathlib.Nat.{mul-le-mul-left, mul-le-mul-right, le-mul-of-pos-right}
+use native.Mathlib.Nat.{mul-le-mul-right, le-mul-of-pos-right}
 use native.Mathlib.Omega.{arith}
 use lib.ListN.{length, set}
 use Rattle.words.specs.Factors.{Group, groupNumbers}
 use Rattle.words.specs.Tables.{suffixGroups}
 use Rattle.rows.proofs.Wrote.{Wrote, wrote-one, wrote-room}
 use Rattle.scan.specs.Group.{NextGroup}
+
+-- the stretch of a group is at least its factor and its power
+pub record Stretches (l e : ℕ) : Type 0 where
+  pub size : l ≤ e * l
+  pub power : e ≤ e * l
+
+pub stretches : {l e : ℕ} → 0 < l → 0 < e → Stretches l e
+stretches {l} {e} h k = record { size = omega (arith, mul-le-mul-right {m = 1} {n = e} l k); power = le-mul-of-pos-right e h }
 
 module _ {s : List ℕ} {i l e : ℕ} (g : NextGroup s i l e) where
   pub count-turn : (k total : ℕ) → k + length (suffixGroups s i) ≡ total → k + 1 + length (suffixGroups s (i + e * l)) ≡ total
@@ -24,25 +32,13 @@ module _ {s : List ℕ} {i l e : ℕ} (g : NextGroup s i l e) where
 
   -- the numbers of a group are small, and the row has room for them
   pub length-fits : l ≤ e * l
-  length-fits =
-      let one : 1 ≤ e = omega (arith, g .some) in
-      omega (arith, mul-le-mul-right l one)
+  length-fits = stretches (g .factor) (g .some) .size
 
   pub power-fits : e ≤ e * l
-  power-fits =
-      let one : 1 ≤ l = omega (arith, g .factor) in
-      omega (arith, mul-le-mul-left e one)
+  power-fits = stretches (g .factor) (g .some) .power
 
   pub group-room : {out d row : List ℕ} {at : ℕ} → Wrote out d row at (groupNumbers (suffixGroups s i)) → at + 3 ≤ length row
   group-room w = omega (arith, wrote-room w, ap length (ap groupNumbers (g .group)))
-
--- the stretch of a group is at least its factor and its power
-pub record Stretches (l e : ℕ) : Type 0 where
-  pub size : l ≤ e * l
-  pub power : e ≤ e * l
-
-pub stretches : {l e : ℕ} → 0 < l → 0 < e → Stretches l e
-stretches {l} {e} h k = record { size = omega (arith, mul-le-mul-right {m = 1} {n = e} l k); power = le-mul-of-pos-right e h }
 
 pub length-numbers : (gs : List Group) → length (groupNumbers gs) ≡ 3 * length gs
 length-numbers [] = refl

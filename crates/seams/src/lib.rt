@@ -14,7 +14,7 @@ pub struct Seams {
     pub place: usize,
 }
 
-// Where the parts of the edited pattern t meet.
+// Where the parts of the edited pattern t meet; for `edit`.
 pub fn plan(pattern: &[u8], table: &[u16], from: usize, to: usize, block: &[u8], t: &[u8]) -> Seams
     requires { ⌜ Accepted (now pattern) (now table) from to (now block) (now t) ⌝ }
     ensures { λ r. ⌜ r ≡ planOf (now (pattern .entry)) from to (now (block .entry)) ⌝ }

@@ -40,6 +40,9 @@ putting-all {out} {d} {b} {i} {n} h w =
 pub puts-begins : {xs d b : List ℕ} {n : ℕ} → Puts xs 0 d b n → Begins xs d b n
 puts-begins p = record { size = omega (arith, p .next); leaves = p .leaves }
 
+pub begins-within : {xs d b : List ℕ} {n : ℕ} → Begins xs d b n → n ≤ length b
+begins-within {xs} {d} p = omega (arith, p .size, ap length (p .leaves), length-append xs (drop (length xs) d))
+
 -- one part behind another
 pub puts-length : {xs d b : List ℕ} {i n : ℕ} → Puts xs i d b n → Room xs i d → length b ≡ length d
 puts-length p h = ap length (p .leaves) ∙ simp (length-append, length-take, length-drop) (omega arith)

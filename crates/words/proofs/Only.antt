@@ -1,4 +1,4 @@
--- Demand 3 pins the answer: two answers that meet it for the same edit are the same, so each is the answer of `Edit`.
+-- Demand 3 pins the answer: two answers that meet it for the same edit are the same, so each is the answer of `Answer`.
 -- The numbers are least or greatest of their kind, and each list is decided by them.
 use mathlib.Core.List.{List, [], _∷_, _++_}
 use mathlib.Core.Logic.{inl, inr, _↔_}

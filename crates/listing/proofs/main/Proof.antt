@@ -1,7 +1,7 @@
 -- `listing::main` is safe and ends.
 use mathlib.Core.Path.{sym}
 use lib.Seq.{length-take-le}
-use Rattle.listing.proofs.Printed.{output-within}
+use Rattle.text.proofs.Puts.{begins-within}
 use borrow.Author.Needs.{needs}
 use Rattle.listing.proofs.main.Statement.{statement}
 use Rattle.listing.proofs.main.Tie as tie
@@ -30,10 +30,10 @@ write-output-requires : tie.Need-write-output-requires
 write-output-requires c κs = search needs
 
 array-share-prefix-text : tie.Need-array-share-prefix-text
-array-share-prefix-text c = output-within _ (c .before .write-output .ensures)
+array-share-prefix-text c = begins-within (c .before .write-output .ensures)
 
 slice-aggregate-write-all : tie.Need-slice-aggregate-write-all
-slice-aggregate-write-all c = sym (length-take-le _ _ (output-within _ (c .before .before .write-output .ensures)))
+slice-aggregate-write-all c = sym (length-take-le _ _ (begins-within (c .before .before .write-output .ensures)))
 
 write-all-requires : tie.Need-write-all-requires
 write-all-requires c κs = search needs

@@ -1,6 +1,6 @@
 -- `lyndon_edit::edit` meets its contract: a walk of its MIR, by hand. All that it knows of `core`, `count_of` and `store_all` is that each meets its contract.
--- The local array is lent as `&mut` for a lifetime that is made for the call of `core`, comes back, and is lent as `&` for another, for the call of `store_all` (`proofs/LocalArray.antt`).
--- Each `&mut` slice is passed on at its own lifetime, share and name, and given up for good (`gave-slice`). Written by tools/thin.py.
+-- The local array is lent as `&mut` for a lifetime that is made for the call of `core`, comes back, and is lent as `&` for another, for the call of `store_all` (`LocalArray` of `records`).
+-- Each `&mut` slice is passed on at its own lifetime, share and name, and given up for good (`gave-slice`).
 -- Assumes nothing.
 use mathlib.Core.Path.{_≡_, refl, sym, ap, subst, _∙_}
 use mathlib.Core.Bool.{Bool}

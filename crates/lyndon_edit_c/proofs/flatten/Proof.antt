@@ -1,4 +1,4 @@
--- `flatten` meets its contract: in each case of the answer the struct is that of the definition.
+-- `lyndon_edit_c::flatten` meets its contract: in each case of the answer the struct is that of the definition.
 use mathlib.Core.Path.{ap, sym}
 use Rattle.lyndon_edit_c.specs.Flat.{flatOf}
 use borrow.Author.Needs.{needs}

@@ -1,4 +1,4 @@
--- `bytes` is safe and ends: `i` stays within the slice, and what is left of it falls.
+-- `show::bytes` is safe and ends: `i` stays within the slice, and what is left of it falls.
 use Prim.Native.Nat.{_≤_, _-_}
 use lib.ListN.{length}
 use borrow.Author.Needs.{needs}

@@ -1,4 +1,4 @@
--- `digest` is safe and ends: `i` stays within the row, what is left of it falls, and the digest stays below its modulus.
+-- `show::digest` is safe and ends: `i` stays within the row, what is left of it falls, and the digest stays below its modulus.
 use Prim.Native.Nat.{_≤_, _<_, _-_}
 use lib.ListN.{length}
 use borrow.Author.Needs.{needs}
