@@ -1,6 +1,7 @@
 // The public library's listing of a pattern. It tests its refusals in number order and then calls `text`, which does the work.
 use refusals::Filled;
 use refusals::MAX_PATTERN;
+use refusals::refused;
 use text::listing_length;
 use text::write_text;
 ghost use Rattle.lyndon_text.specs.Calls.{ListingWritten};
@@ -10,17 +11,11 @@ pub fn write_listing(pattern: &[u8], text: &mut [u8]) -> Filled
     ensures { λ r. ⌜ ListingWritten (now (pattern .entry)) (now (text .entry)) (now (text .exit)) r ⌝ }
 {
     if MAX_PATTERN < pattern.len() {
-        return Filled {
-            refusal: 1,
-            count: 0,
-        };
+        return refused(1);
     }
     let count = listing_length(pattern);
     if text.len() < count {
-        return Filled {
-            refusal: 8,
-            count: 0,
-        };
+        return refused(8);
     }
     write_text(pattern, text);
     Filled { refusal: 0, count }

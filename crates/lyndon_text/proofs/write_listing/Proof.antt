@@ -10,22 +10,29 @@ use Rattle.lyndon_text.proofs.write_listing.Statement.{statement}
 use Rattle.lyndon_text.proofs.write_listing.Tie as tie
 use Rattle.lyndon_text.proofs.write_listing.Reads as reads
 use Rattle.lyndon_text.proofs.write_listing.Lts as lts
+use Rattle.refusals.proofs.refused.Reads as refused-reads
 use Rattle.text.proofs.listing_length.Reads as listing-length-reads
 use Rattle.text.proofs.write_text.Reads as write-text-reads
 
+refused-requires : tie.Need-refused-requires
+refused-requires c κs = search needs
+
 returns : tie.Need-returns
 returns c =
-    let a = c .before .before .before .args in
-    fills-refused (too-long (a .pattern .now) (search needs)) (refl, refl)
+    let a = c .before .before .before .before .args in
+    fills-refused (too-long (a .pattern .now) (search needs)) (c .refused .ensures)
 
 listing-length-requires : tie.Need-listing-length-requires
 listing-length-requires c κs = search needs
 
+refused-requires-2 : tie.Need-refused-requires-2
+refused-requires-2 c κs = search needs
+
 returns-2 : tie.Need-returns-2
 returns-2 c =
-    let a = c .before .before .before .before .before .args in
+    let a = c .before .before .before .before .before .before .args in
     let s = a .pattern .now in
-    fills-refused (not-long s (search needs) (too-short (length (listingText s)) (length (a .text .now)) (omega arith))) (refl, refl)
+    fills-refused (not-long s (search needs) (too-short (length (listingText s)) (length (a .text .now)) (omega arith))) (c .refused2 .ensures)
 
 write-text-requires : tie.Need-write-text-requires
 write-text-requires c κs = search needs
@@ -43,4 +50,4 @@ returns-3 c =
 pub write-listing-spec : {M : Type 1} → statement M
 write-listing-spec =
     tie.close
-    (tie.spec returns listing-length-requires returns-2 write-text-requires same-length returns-3)
+    (tie.spec refused-requires returns listing-length-requires refused-requires-2 returns-2 write-text-requires same-length returns-3)
