@@ -23,7 +23,7 @@ fn parts(s: &[u8], table: &[u16], room: usize) {
     calls::factor_suffix(s, table, 1, room);
 }
 
-pub fn run() {
+pub(crate) fn run() {
     show::heading(b"the empty pattern (P1)");
     answers(b"");
     fills(b"", 0);

@@ -70,7 +70,7 @@ fn trees() {
     calls::lyndon_tree(&[b'a'; 4097], 1026);
 }
 
-pub fn run() {
+pub(crate) fn run() {
     accepted();
     refused();
     repeated(&[b'a'; 4096]);

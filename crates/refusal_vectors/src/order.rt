@@ -39,7 +39,7 @@ fn trees() {
     calls::lyndon_tree(b"ba", 6);
 }
 
-pub fn run() {
+pub(crate) fn run() {
     last_factors(b"abab");
     lyndon_array(b"abab");
     long_pattern(&[b'a'; 4097]);

@@ -16,7 +16,7 @@ fn suffixes(s: &[u8], table: &[u16]) {
     calls::factor_suffix(s, table, usize::MAX, 3);
 }
 
-pub fn run() {
+pub(crate) fn run() {
     show::heading(b"positions: n is accepted, n + 1 and the largest are not");
     prefixes(b"ababbababbabb", &[1, 2, 1, 2, 5, 1, 2, 1, 2, 5, 1, 2, 13]);
     suffixes(b"ababbababbabb", &[13, 1, 3, 1, 1, 8, 1, 3, 1, 1, 3, 1, 1]);

@@ -53,7 +53,7 @@ fn measured() {
     calls::longest_words(b"aaaaaaab", 1);
 }
 
-pub fn run() {
+pub(crate) fn run() {
     show::heading(b"rows: none, one short, exact, longer");
     factor(b"acbabcabcabac");
     longest_words(b"acbabcabcabaac");

@@ -56,7 +56,7 @@ fn wrong(s: &[u8]) {
     suffix(s, 0, 65535, 13);
 }
 
-pub fn run() {
+pub(crate) fn run() {
     lengths(b"ababbababbabb");
     swapped(b"ababbababbabb");
     wrong(b"ababbababbabb");

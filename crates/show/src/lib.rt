@@ -2,7 +2,9 @@
 // there is nothing for an `ensures` to speak of. The calls themselves are made in `calls.rt`; which cases are run is left to the programs.
 pub mod calls;
 
+ghost use mathlib.Core.Path.{_≡_};
 ghost use Prim.Native.Nat.{_<_};
+ghost use Rattle.show.specs.Digest.{digestFrom};
 use libc::STDOUT_FILENO;
 use lyndon_words::Position;
 use lyndon_words::Starts;
@@ -62,7 +64,7 @@ pub fn word(s: &[u8]) {
 }
 
 fn wide(x: u16) -> u64
-    ensures { λ r. ⌜ r < 65536 ⌝ }
+    ensures { λ r. ⌜ (r ≡ x) × (r < 65536) ⌝ }
 {
     x as u64
 }
@@ -78,7 +80,7 @@ fn entries(r: &[u16]) {
 
 // One number for all of a row and its order: from 0 on, each entry is added to 31 times the number so far, modulo 65,521.
 fn digest(r: &[u16]) -> u64
-    ensures { λ d. ⌜ d < 65521 ⌝ }
+    ensures { λ d. ⌜ d ≡ digestFrom 0 (now (r .entry)) ⌝ }
 {
     let mut d = 0;
     let mut i = 0;

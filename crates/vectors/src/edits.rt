@@ -135,7 +135,7 @@ fn tables() {
     edit_with(b"acbabcabcabac", &REACH, &LAST, 5, 6, b"b", 1, 1);
 }
 
-pub fn run() {
+pub(crate) fn run() {
     sheet();
     ends();
     // a function with many arrays of its own takes long to check, so the refusals have three

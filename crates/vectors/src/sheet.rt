@@ -43,7 +43,7 @@ fn sheet() {
     calls::lyndon_tree(b"a", 2);
 }
 
-pub fn run() {
+pub(crate) fn run() {
     marks();
     unsigned();
     short();

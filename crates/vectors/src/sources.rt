@@ -74,7 +74,7 @@ fn example_8(uv: &[u8], table: &mut [u16]) {
     calls::factor_suffix(uv, table, 8, 15);
 }
 
-pub fn run() {
+pub(crate) fn run() {
     source_001();
     rotations();
     figure_1(b"ababbababbabb", &[1, 2, 1, 2, 5, 1, 2, 1, 2, 5, 1, 2, 13]);

@@ -1,6 +1,9 @@
--- `show::digest` is safe and ends: `i` stays within the row, what is left of it falls, and the digest stays below its modulus.
+-- `show::digest` meets its contract: the digest of the row is that of what is left behind the digest so far, which stays below its modulus.
+use mathlib.Core.Path.{_≡_}
 use Prim.Native.Nat.{_≤_, _<_, _-_}
-use lib.ListN.{length}
+use lib.ListN.{length, drop}
+use Rattle.show.specs.Digest.{digestFrom}
+use Rattle.show.proofs.Digested.{digest-one, digest-all}
 use borrow.Author.Needs.{needs}
 use Rattle.show.proofs.digest.Statement.{statement}
 use Rattle.show.proofs.digest.Tie as tie
@@ -9,7 +12,7 @@ use Rattle.show.proofs.digest.Lts as lts
 use Rattle.show.proofs.wide.Reads as wide-reads
 
 abbrev Inv-loop : tie.InvT-loop
-Inv-loop r d₀ i₀ d i = (i ≤ length r) × (d < 65521)
+Inv-loop r d₀ i₀ d i = (i ≤ length r) × (d < 65521) × (digestFrom 0 r ≡ digestFrom d (drop i r))
 
 abbrev μ-loop : tie.MeasureT-loop
 μ-loop r d₀ i₀ d i = length r - i
@@ -39,10 +42,12 @@ loop-less : tie.Need-loop-less Inv-loop μ-loop
 loop-less c = search needs
 
 loop-again : tie.Need-loop-again Inv-loop μ-loop
-loop-again c = search needs
+loop-again c =
+    let l = c .before .before .before in
+    (search needs, search needs, digest-one _ (l .loop .d) (l .loop .i) (l .loop .inv .2) (c .wide .ensures .0) (search needs))
 
 returns : tie.Need-returns Inv-loop μ-loop
-returns c = search needs
+returns c = digest-all _ (c .before .loop .d) (c .before .loop .i) (c .before .loop .inv .2) (search needs)
 
 pub digest-spec : {M : Type 1} → statement M
 digest-spec =
