@@ -1,3 +1,3 @@
-pub mod Copy
+pub mod Spliced
 pub mod Along
 pub mod Starts

@@ -1,35 +1,24 @@
 // Where the factors of a stored and of an edited pattern end and start around an edit, and the splicing of the edited pattern.
 // Refusals and rows are left to the crates above.
+use rows::write_bytes;
 use scan::next_group;
 ghost use mathlib.Core.Path.{_≡_};
 ghost use Prim.Native.Nat.{_+_, _-_, _≤_};
 ghost use lib.ListN.{length, take};
-ghost use Rattle.rows.specs.Row.{written, writtenAt};
+ghost use Rattle.rows.specs.Row.{written};
 ghost use Rattle.words.specs.Edit.{edited};
 ghost use Rattle.words.specs.Factors.{factors};
 ghost use Rattle.words.specs.Tables.{lyndonArray};
 ghost use Rattle.cuts.specs.Bounds.{Boundary, EndsBy, StartsBy};
-
-// Copies a into t from place `at` on.
-fn copy_in(a: &[u8], t: &mut [u8], at: usize)
-    requires { ⌜ at + length (now a) ≤ length (now t) ⌝ }
-    ensures { λ _. ⌜ now (t .exit) ≡ writtenAt at (now (a .entry)) (now (t .entry)) ⌝ }
-{
-    let mut k = 0;
-    while k < a.len() {
-        t[at + k] = a[k];
-        k += 1;
-    }
-}
 
 // Writes the edited pattern to the front of t.
 pub fn splice(s: &[u8], from: usize, to: usize, block: &[u8], t: &mut [u8])
     requires { ⌜ (from ≤ to) × (to ≤ length (now s)) × (from + length (now block) + (length (now s) - to) ≤ length (now t)) ⌝ }
     ensures { λ _. ⌜ now (t .exit) ≡ written (edited (now (s .entry)) from to (now (block .entry))) (now (t .entry)) ⌝ }
 {
-    copy_in(&s[..from], t, 0);
-    copy_in(block, t, from);
-    copy_in(&s[to..], t, from + block.len());
+    write_bytes(&s[..from], t, 0);
+    write_bytes(block, t, from);
+    write_bytes(&s[to..], t, from + block.len());
 }
 
 // How many leading factors end at or before a place, and where the last of them ends.

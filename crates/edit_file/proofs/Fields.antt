@@ -8,9 +8,10 @@ use native.Mathlib.Omega.{arith}
 use lib.ListN.{length, take, drop, getD, length-append, List·getD-append}
 use lib.Seq.{split-at, length-take-le, getD-take, getD-append-seam}
 use Rattle.words.proofs.Bounded.{le-or-lt, le-cases}
-use Rattle.text.specs.Decimal.{read}
-use Rattle.edit_file.specs.EditFile.{Digits, Numeral}
-use Rattle.edit_file.specs.Fields.{Leading, Closes}
+use Rattle.decimal.specs.Decimal.{read, Digits}
+use Rattle.decimal.specs.Leading.{Leading}
+use Rattle.edit_file.specs.EditFile.{Numeral}
+use Rattle.edit_file.specs.Fields.{Closes}
 
 -- digits before a byte that is none are all the digits that the text starts with
 digits-all : (cs : List ℕ) (x n : ℕ) (rest : List ℕ) → Digits cs → x < 48 → Leading (cs ++ (x ∷ rest)) n

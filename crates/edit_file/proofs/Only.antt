@@ -4,8 +4,8 @@ use mathlib.Core.Path.{_≡_, refl, sym, ap, _∙_}
 use Prim.Native.Nat.{ℕ, suc, _<_}
 use native.Mathlib.Omega.{arith}
 use lib.ListN.{drop}
-use Rattle.text.specs.Decimal.{read}
-use Rattle.edit_file.specs.EditFile.{Digits, Numeral, EditFile}
+use Rattle.decimal.specs.Decimal.{read, Digits}
+use Rattle.edit_file.specs.EditFile.{Numeral, EditFile}
 
 pub front-only : (close : ℕ) (cs ds : List ℕ) {rest rest′ : List ℕ} → close < 48 → Digits cs → Digits ds
     → cs ++ (close ∷ rest) ≡ ds ++ (close ∷ rest′) → (cs ≡ ds) × (rest ≡ rest′)

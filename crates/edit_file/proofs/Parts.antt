@@ -9,7 +9,7 @@ use lib.ListN.{length, take, drop, length-drop, take-append-drop}
 use lib.Seq.{take-all}
 use Rattle.words.specs.Order.{same}
 use Rattle.words.proofs.Order.{same-true, same-false}
-use Rattle.text.specs.Decimal.{codes}
+use Rattle.decimal.specs.Decimal.{codes}
 use Rattle.edit_file.specs.EditFile.{EditFile}
 use Rattle.edit_file.specs.Fields.{Closes}
 use Rattle.edit_file.proofs.Only.{front-only}

@@ -2,18 +2,11 @@
 -- proofs/Only proves that a file says at most one pair of numbers.
 use mathlib.Core.List.{List, _++_}
 use mathlib.Core.Path.{_≡_}
-use Prim.Native.Nat.{ℕ, _≤_, _<_}
-use lib.ListN.{length, getD}
-use Rattle.text.specs.Decimal.{codes, read}
+use Prim.Native.Nat.{ℕ, _≤_}
+use lib.ListN.{length}
+use Rattle.decimal.specs.Decimal.{codes, read, Digits}
 use Rattle.edit_file.specs.declared.Parsed.{Parsed}
 use Rattle.edit_file.specs.declared.Parsed.the-variants.{Edit, Malformed}
-
--- The code of a decimal digit.
-abbrev pub Digit : ℕ → Type 0
-Digit c = (48 ≤ c) × (c ≤ 57)
-
-abbrev pub Digits : List ℕ → Type 0
-Digits cs = (k : ℕ) → k < length cs → Digit (getD cs k 0)
 
 -- One to five digits that read as n; leading zeros are accepted.
 pub record Numeral (cs : List ℕ) (n : ℕ) : Type 0 where

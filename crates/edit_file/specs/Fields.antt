@@ -1,17 +1,11 @@
--- What the inner functions answer: the digits that a text starts with, and a number with the byte that closes it.
+-- What the inner function answers: a number with the byte that closes it.
 use mathlib.Core.List.{List, _∷_, _++_}
 use mathlib.Core.Path.{_≡_}
-use Prim.Native.Nat.{ℕ, _+_, _≤_, _<_}
-use lib.ListN.{length, drop, getD}
-use Rattle.edit_file.specs.EditFile.{Digit, Numeral}
+use Prim.Native.Nat.{ℕ, _+_}
+use lib.ListN.{length, drop}
+use Rattle.edit_file.specs.EditFile.{Numeral}
 use Rattle.edit_file.specs.declared.Field.{Field}
 use Rattle.edit_file.specs.declared.Field.the-variants.{Number, Missing}
-
--- The text starts with n digits and no more; past its end stands no digit.
-pub record Leading (text : List ℕ) (n : ℕ) : Type 0 where
-  pub fits : n ≤ length text
-  pub digits : (k : ℕ) → k < n → Digit (getD text k 0)
-  pub stops : Digit (getD text n 0) → ⊥
 
 -- The text starts with a number and the closing byte; `end` is the place behind that byte.
 pub record Closes (text : List ℕ) (close value end : ℕ) : Type 0 where

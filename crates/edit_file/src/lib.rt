@@ -1,11 +1,10 @@
 // The parser of the file edit.csv: the line `from,to`, then one line of two decimal numbers of one to five digits.
+use decimal::leading_digits;
+use decimal::value_of;
 use scan::agree;
-ghost use mathlib.Core.Path.{_≡_};
-ghost use Prim.Native.Nat.{_<_, _≤_};
-ghost use lib.ListN.{length};
-ghost use Rattle.text.specs.Decimal.{read};
-ghost use Rattle.edit_file.specs.EditFile.{Digits, Answers};
-ghost use Rattle.edit_file.specs.Fields.{Leading, FieldOf};
+ghost use Prim.Native.Nat.{_<_};
+ghost use Rattle.edit_file.specs.EditFile.{Answers};
+ghost use Rattle.edit_file.specs.Fields.{FieldOf};
 
 // The stretch that an edit replaces, as the file says it.
 pub struct Stretch {
@@ -31,38 +30,6 @@ struct Closed {
 enum Field {
     Number(Closed),
     Missing,
-}
-
-// How many digits a text starts with.
-fn leading_digits(text: &[u8]) -> usize
-    ensures { λ r. ⌜ Leading (now (text .entry)) r ⌝ }
-{
-    let mut count = 0;
-    while count < text.len() {
-        let c = text[count];
-        if c < b'0' {
-            return count;
-        }
-        if b'9' < c {
-            return count;
-        }
-        count += 1;
-    }
-    count
-}
-
-// The number that at most five digits read as.
-fn value_of(digits: &[u8]) -> usize
-    requires { ⌜ (length (now digits) ≤ 5) × Digits (now digits) ⌝ }
-    ensures { λ r. ⌜ r ≡ read (now (digits .entry)) ⌝ }
-{
-    let mut value = 0;
-    let mut k = 0;
-    while k < digits.len() {
-        value = 10 * value + (digits[k] - b'0') as usize;
-        k += 1;
-    }
-    value
 }
 
 // The number that a text starts with, where this byte, which is no digit, closes it.

@@ -17,9 +17,9 @@ use Rattle.refusals.proofs.First.{First}
 use Rattle.refusals.specs.Refusals.{firstOf, maxPattern, noStretch, blockTooLong, editedTooLong}
 use Rattle.refusals.specs.declared.Filled.{Filled}
 use Rattle.text.proofs.Lines.{refusal-room}
-use Rattle.text.proofs.Puts.{puts-begins}
+use Rattle.text.proofs.Begins.{puts-begins}
 use Rattle.text.specs.Listing.{editedText, refusalText, printed}
-use Rattle.text.specs.Written.{Room, Puts}
+use Rattle.rows.specs.Written.{Room, Puts}
 use Rattle.words.proofs.Tables.{lyndon-array-length, last-factors-length}
 use Rattle.words.specs.Tables.{lyndonArray, lastFactors}
 use Rattle.edited.specs.Output.{editOutput, Prints}

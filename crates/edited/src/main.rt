@@ -15,7 +15,7 @@ ghost use Prim.Native.Nat.{_≤_};
 ghost use mathlib.Core.Path.{_≡_};
 ghost use lib.ListN.{length};
 ghost use Rattle.io.specs.Counts.{Counts};
-ghost use Rattle.text.specs.Written.{Puts};
+ghost use Rattle.rows.specs.Written.{Puts};
 ghost use Rattle.edited.specs.Output.{editOutput, Prints};
 ghost use Rattle.edited.specs.Refusal.{refusalIn};
 

@@ -6,9 +6,9 @@ use native.Mathlib.Omega.{arith}
 use lib.ListN.{length, take, drop, length-append}
 use lib.Seq.{take-at, length-take-le}
 use Rattle.rows.specs.Row.{written}
-use Rattle.text.proofs.Puts.{puts-length, puts-then}
+use Rattle.rows.proofs.Puts.{puts-length, puts-then}
 use Rattle.text.specs.Listing.{header, lines, editedText}
-use Rattle.text.specs.Written.{Room, Puts}
+use Rattle.rows.specs.Written.{Room, Puts}
 use Rattle.words.proofs.Edit.{length-edited}
 use Rattle.words.specs.Edit.{edited}
 use Rattle.words.specs.Tables.{suffixGroups}

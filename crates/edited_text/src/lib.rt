@@ -9,7 +9,7 @@ use text::write_line;
 ghost use Prim.Native.Nat.{_≤_};
 ghost use lib.ListN.{length};
 ghost use Rattle.text.specs.Listing.{lines, editedText};
-ghost use Rattle.text.specs.Written.{Room, Puts};
+ghost use Rattle.rows.specs.Written.{Room, Puts};
 ghost use Rattle.words.specs.Tables.{suffixGroups};
 ghost use Rattle.edited_text.specs.Answered.{Answered};
 ghost use Rattle.edited_text.specs.Parts.{Ahead, Joined, Parted, Stands, partsText};

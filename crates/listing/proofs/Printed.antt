@@ -11,9 +11,9 @@ use Rattle.refusals.specs.declared.Filled.{Filled}
 use Rattle.refusals.proofs.First.{First, first-is, too-long, not-long, not-short}
 use Rattle.text.proofs.Lengths.{listing-room}
 use Rattle.text.proofs.Lines.{refusal-room}
-use Rattle.text.proofs.Puts.{puts-begins}
+use Rattle.text.proofs.Begins.{puts-begins}
 use Rattle.text.specs.Listing.{listingText, refusalText, printed, Begins}
-use Rattle.text.specs.Written.{Room, Puts}
+use Rattle.rows.specs.Written.{Room, Puts}
 use Rattle.words.proofs.Bounded.{le-or-lt}
 use Rattle.listing.specs.Output.{output}
 

@@ -1,4 +1,5 @@
 pub mod Wrote
 pub mod Written
+pub mod Puts
 pub mod Back
 pub mod Fill

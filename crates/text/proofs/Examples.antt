@@ -4,7 +4,7 @@ use Rattle.hex.specs.Hex.{pairOf}
 use Rattle.words.specs.Factors.{factors}
 use Rattle.words.specs.Tables.{groups}
 use Rattle.words.specs.Edit.{edited, keptOf, kept, resume, middleOf, middle, middleGroups}
-use Rattle.text.specs.Decimal.{codes, digitCount, decimal}
+use Rattle.decimal.specs.Decimal.{codes, digitCount, decimal}
 use Rattle.text.specs.Listing.{header, line, listingText, keptGroups, resumedGroups, editedText, refusalText}
 
 -- the worked example

@@ -12,9 +12,10 @@ use Rattle.words.specs.Tables.{groups, suffixGroups}
 use Rattle.words.proofs.Factors.{join-factors, factors-falling}
 use Rattle.words.proofs.EditParts.{end-apart, end-all}
 use Rattle.words.proofs.Groups.{Packed, none, more, packed, groups-most}
-use Rattle.text.specs.Decimal.{codes, digitCount, decimal, hexadecimal}
+use Rattle.decimal.specs.Decimal.{codes, digitCount, decimal}
+use Rattle.text.specs.Hexadecimal.{hexadecimal}
 use Rattle.text.specs.Listing.{header, field, line, lines, listingText}
-use Rattle.text.proofs.Decimal.{length-decimal, count-least}
+use Rattle.decimal.proofs.Decimal.{length-decimal, count-least}
 
 pub length-hexadecimal : (w : List ℕ) → length (hexadecimal w) ≡ 2 * length w
 unfolding pairOf

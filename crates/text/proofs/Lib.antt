@@ -1,7 +1,6 @@
-pub mod Decimal
 pub mod Lengths
-pub mod Puts
-pub mod Writers
+pub mod Begins
+pub mod Word
 pub mod Lines
 pub mod Examples
 pub mod EditedLength

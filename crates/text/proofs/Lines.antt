@@ -11,12 +11,13 @@ use Rattle.scan.specs.Group.{NextGroup}
 use Rattle.scan.proofs.Next.{groups-start}
 use Rattle.scan.proofs.Pass.{length-fits}
 use Rattle.words.specs.Tables.{suffixGroups}
-use Rattle.text.specs.Decimal.{codes, decimal, hexadecimal}
+use Rattle.decimal.specs.Decimal.{codes, decimal}
+use Rattle.text.specs.Hexadecimal.{hexadecimal}
 use Rattle.text.specs.Listing.{header, lineEnd, field, line, lines, listingText, refusalText}
-use Rattle.text.specs.Written.{Room, Puts}
-use Rattle.text.proofs.Decimal.{count-least, length-decimal}
+use Rattle.rows.specs.Written.{Room, Puts}
+use Rattle.decimal.proofs.Decimal.{count-least, length-decimal}
 use Rattle.text.proofs.Lengths.{length-header, line-parts}
-use Rattle.text.proofs.Puts.{puts-then}
+use Rattle.rows.proofs.Puts.{puts-then}
 
 pub line-put : (start power : ℕ) (word d : List ℕ) (i : ℕ) {b₁ b₂ b₃ b₄ b₅ : List ℕ} {n₁ n₂ n₃ n₄ n₅ : ℕ}
     → Room (line start (length word) power word) i d → Puts (field start) i d b₁ n₁ → Puts (field (length word)) n₁ b₁ b₂ n₂

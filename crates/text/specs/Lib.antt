@@ -1,4 +1,3 @@
--- Reading order: Decimal, Listing. Written is for the writers between the crates.
-pub mod Decimal
+-- Reading order: Hexadecimal, Listing.
+pub mod Hexadecimal
 pub mod Listing
-pub mod Written

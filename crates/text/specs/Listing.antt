@@ -7,7 +7,8 @@ use Rattle.rows.specs.Row.{written}
 use Rattle.words.specs.Factors.{factors, Group, groupsFrom}
 use Rattle.words.specs.Tables.{groups}
 use Rattle.words.specs.Edit.{edited, place, kept, resume, middleGroups}
-use Rattle.text.specs.Decimal.{codes, decimal, hexadecimal}
+use Rattle.decimal.specs.Decimal.{codes, decimal}
+use Rattle.text.specs.Hexadecimal.{hexadecimal}
 
 abbrev pub lineEnd : List ℕ
 lineEnd = codes "\r\n"

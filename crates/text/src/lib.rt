@@ -1,15 +1,19 @@
 // The text of the listings, measured and written into a lent buffer: numbers in decimal, words in hexadecimal, lines, and the pass over
 // the groups of a pattern. That the buffer is long enough is the caller's concern.
+use decimal::digit_count;
+use decimal::write_decimal;
 use hex::pair_of;
+use rows::write_bytes;
 use scan::next_group;
 ghost use mathlib.Core.Path.{_≡_};
 ghost use Prim.Native.Nat.{_<_, _≤_};
 ghost use lib.ListN.{length};
 ghost use Rattle.rows.specs.Row.{written};
 ghost use Rattle.words.specs.Tables.{suffixGroups};
-ghost use Rattle.text.specs.Decimal.{decimal, hexadecimal};
+ghost use Rattle.decimal.specs.Decimal.{decimal};
+ghost use Rattle.text.specs.Hexadecimal.{hexadecimal};
 ghost use Rattle.text.specs.Listing.{header, field, line, lines, listingText, refusalText};
-ghost use Rattle.text.specs.Written.{Room, Puts};
+ghost use Rattle.rows.specs.Written.{Room, Puts};
 
 // The first line of every listing.
 pub const HEADER: [u8; 25] = *b"start,length,power,word\r\n";
@@ -17,50 +21,6 @@ pub const HEADER: [u8; 25] = *b"start,length,power,word\r\n";
 const LINE_END: [u8; 2] = *b"\r\n";
 
 const REFUSED: [u8; 8] = *b"refused,";
-
-// How many digits a number has in decimal.
-fn digit_count(n: usize) -> usize
-    ensures { λ r. ⌜ r ≡ length (decimal n) ⌝ }
-{
-    let mut count = 1;
-    let mut rest = n;
-    while 10 <= rest {
-        rest /= 10;
-        count += 1;
-    }
-    count
-}
-
-// Writes a number in decimal, the last digit first.
-fn write_decimal(n: usize, buffer: &mut [u8], at: usize) -> usize
-    requires { ⌜ Room (decimal n) at (now buffer) ⌝ }
-    ensures { λ r. ⌜ Puts (decimal n) at (now (buffer .entry)) (now (buffer .exit)) r ⌝ }
-{
-    let end = at + digit_count(n);
-    let mut i = end;
-    let mut rest = n;
-    while at < i {
-        i -= 1;
-        buffer[i] = 48 + (rest % 10) as u8;
-        rest /= 10;
-    }
-    end
-}
-
-// Writes bytes as they are.
-fn write_bytes(bytes: &[u8], buffer: &mut [u8], at: usize) -> usize
-    requires { ⌜ Room (now bytes) at (now buffer) ⌝ }
-    ensures { λ r. ⌜ Puts (now (bytes .entry)) at (now (buffer .entry)) (now (buffer .exit)) r ⌝ }
-{
-    let mut next = at;
-    let mut k = 0;
-    while k < bytes.len() {
-        buffer[next] = bytes[k];
-        next += 1;
-        k += 1;
-    }
-    next
-}
 
 // Writes the bytes of a word in hexadecimal.
 fn write_word(word: &[u8], buffer: &mut [u8], at: usize) -> usize

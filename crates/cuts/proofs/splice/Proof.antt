@@ -3,41 +3,41 @@ use mathlib.Core.Path.{sym}
 use native.Mathlib.Omega.{arith}
 use lib.ListN.{length-take}
 use lib.Seq.{length-take-le}
-use Rattle.cuts.proofs.Copy.{spliced}
+use Rattle.cuts.proofs.Spliced.{spliced}
 use borrow.Author.Needs.{needs}
 use Rattle.cuts.proofs.splice.Statement.{statement}
 use Rattle.cuts.proofs.splice.Tie as tie
 use Rattle.cuts.proofs.splice.Reads as reads
 use Rattle.cuts.proofs.splice.Lts as lts
-use Rattle.cuts.proofs.copy_in.Reads as copy-in-reads
+use Rattle.rows.proofs.write_bytes.Reads as write-bytes-reads
 
-slice-aggregate-copy-in : tie.Need-slice-aggregate-copy-in
-slice-aggregate-copy-in c =
+slice-aggregate-write-bytes : tie.Need-slice-aggregate-write-bytes
+slice-aggregate-write-bytes c =
     let s = c .before .before .before .before in
     sym (length-take-le (s .args .from) (s .args .s .now) (search needs))
 
-copy-in-requires : tie.Need-copy-in-requires
-copy-in-requires c κs =
+write-bytes-requires : tie.Need-write-bytes-requires
+write-bytes-requires c κs =
     let s = c .before .before .before .before .before in
     omega (arith, length-take (s .args .from) (s .args .s .now))
 
-copy-in-requires-2 : tie.Need-copy-in-requires-2
-copy-in-requires-2 c κs = search needs
+write-bytes-requires-2 : tie.Need-write-bytes-requires-2
+write-bytes-requires-2 c κs = search needs
 
-sub-copy-in : tie.Need-sub-copy-in
-sub-copy-in c = search needs
+sub-write-bytes : tie.Need-sub-write-bytes
+sub-write-bytes c = search needs
 
-part-copy-in-start : tie.Need-part-copy-in-start
-part-copy-in-start c = search needs
+part-write-bytes-start : tie.Need-part-write-bytes-start
+part-write-bytes-start c = search needs
 
-part-copy-in-end : tie.Need-part-copy-in-end
-part-copy-in-end c = search needs
+part-write-bytes-end : tie.Need-part-write-bytes-end
+part-write-bytes-end c = search needs
 
-add-copy-in : tie.Need-add-copy-in
-add-copy-in c = search needs
+add-write-bytes : tie.Need-add-write-bytes
+add-write-bytes c = search needs
 
-copy-in-requires-3 : tie.Need-copy-in-requires-3
-copy-in-requires-3 c κs = search needs
+write-bytes-requires-3 : tie.Need-write-bytes-requires-3
+write-bytes-requires-3 c κs = search needs
 
 same-length : tie.Need-same-length
 same-length c = search needs
@@ -50,19 +50,19 @@ returns c =
     let s = first .before .before .before .before .before .before in
     let a = s .args in
     spliced (a .s .now) (a .from) (a .to) (a .block .now) (a .t .now) (search needs) (search needs)
-    (first .copy-in .ensures) (second .copy-in2 .ensures) (third .copy-in3 .ensures)
+    (first .write-bytes .ensures .leaves) (second .write-bytes2 .ensures .leaves) (third .write-bytes3 .ensures .leaves)
 
 pub splice-spec : {M : Type 1} → statement M
 splice-spec =
     tie.close
     (tie.spec
-    slice-aggregate-copy-in
-    copy-in-requires
-    copy-in-requires-2
-    sub-copy-in
-    part-copy-in-start
-    part-copy-in-end
-    add-copy-in
-    copy-in-requires-3
+    slice-aggregate-write-bytes
+    write-bytes-requires
+    write-bytes-requires-2
+    sub-write-bytes
+    part-write-bytes-start
+    part-write-bytes-end
+    add-write-bytes
+    write-bytes-requires-3
     same-length
     returns)

@@ -6,8 +6,8 @@ use Rattle.edit_file.proofs.first_field.Statement.{statement}
 use Rattle.edit_file.proofs.first_field.Tie as tie
 use Rattle.edit_file.proofs.first_field.Reads as reads
 use Rattle.edit_file.proofs.first_field.Lts as lts
-use Rattle.edit_file.proofs.leading_digits.Reads as leading-digits-reads
-use Rattle.edit_file.proofs.value_of.Reads as value-of-reads
+use Rattle.decimal.proofs.leading_digits.Reads as leading-digits-reads
+use Rattle.decimal.proofs.value_of.Reads as value-of-reads
 
 leading-digits-requires : tie.Need-leading-digits-requires
 leading-digits-requires c κs = search needs

@@ -1,7 +1,7 @@
 -- `listing::main` is safe and ends.
 use mathlib.Core.Path.{sym}
 use lib.Seq.{length-take-le}
-use Rattle.text.proofs.Puts.{begins-within}
+use Rattle.text.proofs.Begins.{begins-within}
 use borrow.Author.Needs.{needs}
 use Rattle.listing.proofs.main.Statement.{statement}
 use Rattle.listing.proofs.main.Tie as tie

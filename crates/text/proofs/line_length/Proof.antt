@@ -6,7 +6,7 @@ use Rattle.text.proofs.line_length.Statement.{statement}
 use Rattle.text.proofs.line_length.Tie as tie
 use Rattle.text.proofs.line_length.Reads as reads
 use Rattle.text.proofs.line_length.Lts as lts
-use Rattle.text.proofs.digit_count.Reads as digit-count-reads
+use Rattle.decimal.proofs.digit_count.Reads as digit-count-reads
 
 digit-count-requires : tie.Need-digit-count-requires
 digit-count-requires c κs = search needs

@@ -1,14 +1,14 @@
 -- `text::write_field` meets its contract: the number is written, then the comma.
 use Rattle.text.proofs.Lengths.{length-field}
-use Rattle.text.proofs.Decimal.{length-decimal}
-use Rattle.text.proofs.Puts.{puts-byte}
+use Rattle.decimal.proofs.Decimal.{length-decimal}
+use Rattle.rows.proofs.Puts.{puts-byte}
 use borrow.Author.Needs.{needs}
 use native.Mathlib.Omega.{arith}
 use Rattle.text.proofs.write_field.Statement.{statement}
 use Rattle.text.proofs.write_field.Tie as tie
 use Rattle.text.proofs.write_field.Reads as reads
 use Rattle.text.proofs.write_field.Lts as lts
-use Rattle.text.proofs.write_decimal.Reads as write-decimal-reads
+use Rattle.decimal.proofs.write_decimal.Reads as write-decimal-reads
 
 write-decimal-requires : tie.Need-write-decimal-requires
 write-decimal-requires c κs =

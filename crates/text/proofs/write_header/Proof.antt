@@ -5,7 +5,7 @@ use Rattle.text.proofs.write_header.Statement.{statement}
 use Rattle.text.proofs.write_header.Tie as tie
 use Rattle.text.proofs.write_header.Reads as reads
 use Rattle.text.proofs.write_header.Lts as lts
-use Rattle.text.proofs.write_bytes.Reads as write-bytes-reads
+use Rattle.rows.proofs.write_bytes.Reads as write-bytes-reads
 
 slice-aggregate-write-bytes : tie.Need-slice-aggregate-write-bytes
 slice-aggregate-write-bytes c = search needs

@@ -7,7 +7,7 @@ use Rattle.text.proofs.write_line.Statement.{statement}
 use Rattle.text.proofs.write_line.Tie as tie
 use Rattle.text.proofs.write_line.Reads as reads
 use Rattle.text.proofs.write_line.Lts as lts
-use Rattle.text.proofs.write_bytes.Reads as write-bytes-reads
+use Rattle.rows.proofs.write_bytes.Reads as write-bytes-reads
 use Rattle.text.proofs.write_field.Reads as write-field-reads
 use Rattle.text.proofs.write_word.Reads as write-word-reads
 

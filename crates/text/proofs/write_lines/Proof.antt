@@ -8,7 +8,7 @@ use Rattle.scan.proofs.Next.{suffix-end, group-long}
 use Rattle.scan.proofs.Pass.{length-fits}
 use Rattle.text.specs.Listing.{lines}
 use Rattle.text.proofs.Lines.{line-room, line-turn}
-use Rattle.text.proofs.Puts.{Putting, putting-none, putting-all}
+use Rattle.rows.proofs.Puts.{Putting, putting-none, putting-all}
 use borrow.Author.Needs.{needs}
 use native.Mathlib.Omega.{arith}
 use Rattle.text.proofs.write_lines.Statement.{statement}

@@ -6,8 +6,8 @@ use Rattle.text.proofs.write_refusal.Statement.{statement}
 use Rattle.text.proofs.write_refusal.Tie as tie
 use Rattle.text.proofs.write_refusal.Reads as reads
 use Rattle.text.proofs.write_refusal.Lts as lts
-use Rattle.text.proofs.write_bytes.Reads as write-bytes-reads
-use Rattle.text.proofs.write_decimal.Reads as write-decimal-reads
+use Rattle.rows.proofs.write_bytes.Reads as write-bytes-reads
+use Rattle.decimal.proofs.write_decimal.Reads as write-decimal-reads
 
 slice-aggregate-write-bytes : tie.Need-slice-aggregate-write-bytes
 slice-aggregate-write-bytes c = search needs

@@ -2,9 +2,9 @@
 use Prim.Native.Nat.{_≤_, _-_}
 use lib.ListN.{length, drop, length-set}
 use Rattle.rows.proofs.Wrote.{wrote-length}
-use Rattle.text.specs.Decimal.{hexadecimal}
-use Rattle.text.proofs.Puts.{Putting, putting-none, putting-all}
-use Rattle.text.proofs.Writers.{word-room, word-turn, bytes-end}
+use Rattle.text.specs.Hexadecimal.{hexadecimal}
+use Rattle.rows.proofs.Puts.{Putting, putting-none, putting-all, bytes-end}
+use Rattle.text.proofs.Word.{word-room, word-turn}
 use borrow.Author.Needs.{needs}
 use native.Mathlib.Omega.{arith}
 use Rattle.text.proofs.write_word.Statement.{statement}

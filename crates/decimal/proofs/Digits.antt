@@ -7,9 +7,8 @@ use native.Mathlib.Numerals.{add-one}
 use native.Mathlib.Omega.{arith}
 use lib.ListN.{length, drop, getD, List·getD-eq-default, drop-of-length-le}
 use lib.Seq.{drop-cons}
-use Rattle.text.specs.Decimal.{read, readBehind}
-use Rattle.edit_file.specs.EditFile.{Digit}
-use Rattle.edit_file.specs.Fields.{Leading}
+use Rattle.decimal.specs.Decimal.{read, readBehind, Digit}
+use Rattle.decimal.specs.Leading.{Leading}
 
 pub leading-end : (text : List ℕ) (n : ℕ) → length text ≤ n → n ≤ length text → ((k : ℕ) → k < n → Digit (getD text k 0)) → Leading text n
 leading-end text n h l d = record { fits = l; digits = d; stops = λ x. omega (arith, List·getD-eq-default text 0 h) }
@@ -22,10 +21,10 @@ pub record Reading (digits : List ℕ) (value k : ℕ) : Type 0 where
 
 module _ {digits : List ℕ} {value k : ℕ} (r : Reading digits value k) where
   -- another digit still fits
-  pub reading-small : length digits ≤ 5 → k < length digits → value < 10000
+  pub reading-small : length digits ≤ 9 → k < length digits → value < 100000000
   reading-small h l =
-      let four : k ≤ 4 = omega arith in
-      omega (arith, r .small, pow-le-pow-right {n = 10} (omega arith) four)
+      let eight : k ≤ 8 = omega arith in
+      omega (arith, r .small, pow-le-pow-right {n = 10} (omega arith) eight)
 
   pub reading-turn : k < length digits → Digit (getD digits k 0) → Reading digits (10 * value + (getD digits k 0 - 48)) (k + 1)
   reading-turn h d =

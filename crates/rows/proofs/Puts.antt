@@ -2,14 +2,14 @@
 use mathlib.Core.List.{List, [], _∷_, _++_, append-assoc, append-nil}
 use mathlib.Core.Path.{_≡_, refl, sym, ap, _∙_}
 use Prim.Native.Nat.{ℕ, suc, _+_, _≤_, _<_}
+use native.Mathlib.Numerals.{add-one}
 use native.Mathlib.Omega.{arith}
-use lib.ListN.{length, take, drop, set, length-append, length-take, length-drop, take-append-drop}
-use lib.Seq.{drop-drop, drop-at, length-take-le, set-split, take-set-le}
+use lib.ListN.{length, take, drop, getD, set, length-append, length-take, length-drop, take-append-drop, drop-of-length-le}
+use lib.Seq.{drop-cons, drop-drop, drop-at, length-take-le, set-split, take-set-le}
 use Rattle.rows.specs.Row.{writtenAt}
-use Rattle.rows.proofs.Wrote.{Wrote, wrote-all, set-written}
+use Rattle.rows.proofs.Wrote.{Wrote, wrote-one, wrote-room, wrote-all, set-written}
 use Rattle.rows.proofs.Written.{written-append}
-use Rattle.text.specs.Listing.{Begins}
-use Rattle.text.specs.Written.{Room, Puts}
+use Rattle.rows.specs.Written.{Room, Puts}
 
 -- the buffer while `out` is put into d from place i on: n is the next place, and `rest` is left
 abbrev pub Putting : List ℕ → ℕ → List ℕ → List ℕ → ℕ → List ℕ → Type 0
@@ -26,6 +26,19 @@ putting-none out d i h =
       holds = sym (take-append-drop i d);
     }
 
+-- what is left of the bytes goes on at place `next`
+module _ {out d b : List ℕ} {next : ℕ} (xs : List ℕ) (k : ℕ) (h : k < length xs) where
+  pub byte-room : Wrote out d b next (drop k xs) → next + 1 ≤ length b
+  byte-room w = omega (arith, wrote-room w, length-drop k xs)
+
+  pub byte-turn : Wrote out d b next (drop k xs) → Wrote out d (set b next (getD xs k 0)) (next + 1) (drop (k + 1) xs)
+  byte-turn w =
+      let e : drop k xs ≡ getD xs k 0 ∷ drop (k + 1) xs = rw add-one (drop-cons xs k 0 h) in
+      wrote-one (rw e at w)
+
+pub bytes-end : (xs : List ℕ) (k : ℕ) → length xs ≤ k → drop k xs ≡ []
+bytes-end xs k h = drop-of-length-le xs h
+
 pub putting-all : {out d b : List ℕ} {i n : ℕ} → i ≤ length d → Putting out i d b n [] → Puts out i d b n
 putting-all {out} {d} {b} {i} {n} h w =
     let m : length (take i d ++ out) ≡ i + length out = length-append (take i d) out ∙ ap (λ k. k + length out) (length-take-le i d h) in
@@ -35,13 +48,6 @@ putting-all {out} {d} {b} {i} {n} h w =
           wrote-all w ∙ append-assoc (take i d) out (drop (length (take i d ++ out)) d)
           ∙ ap (λ u. take i d ++ (out ++ u)) (ap (λ k. drop k d) m ∙ sym (drop-drop (length out) i d));
     }
-
--- text at the front
-pub puts-begins : {xs d b : List ℕ} {n : ℕ} → Puts xs 0 d b n → Begins xs d b n
-puts-begins p = record { size = omega (arith, p .next); leaves = p .leaves }
-
-pub begins-within : {xs d b : List ℕ} {n : ℕ} → Begins xs d b n → n ≤ length b
-begins-within {xs} {d} p = omega (arith, p .size, ap length (p .leaves), length-append xs (drop (length xs) d))
 
 -- one part behind another
 pub puts-length : {xs d b : List ℕ} {i n : ℕ} → Puts xs i d b n → Room xs i d → length b ≡ length d

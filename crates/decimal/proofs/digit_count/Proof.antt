@@ -1,14 +1,14 @@
--- `text::digit_count` meets its contract: each turn takes the last digit off.
+-- `decimal::digit_count` meets its contract: each turn takes the last digit off.
 use mathlib.Core.Path.{_≡_}
 use Prim.Native.Nat.{_≤_, _+_}
-use Rattle.text.specs.Decimal.{digitCount}
-use Rattle.text.proofs.Decimal.{count-one, count-more, length-decimal}
+use Rattle.decimal.specs.Decimal.{digitCount}
+use Rattle.decimal.proofs.Decimal.{count-one, count-more, length-decimal}
 use borrow.Author.Needs.{needs}
 use native.Mathlib.Omega.{arith}
-use Rattle.text.proofs.digit_count.Statement.{statement}
-use Rattle.text.proofs.digit_count.Tie as tie
-use Rattle.text.proofs.digit_count.Reads as reads
-use Rattle.text.proofs.digit_count.Lts as lts
+use Rattle.decimal.proofs.digit_count.Statement.{statement}
+use Rattle.decimal.proofs.digit_count.Tie as tie
+use Rattle.decimal.proofs.digit_count.Reads as reads
+use Rattle.decimal.proofs.digit_count.Lts as lts
 
 abbrev Inv-loop : tie.InvT-loop
 Inv-loop n count₀ rest₀ count rest = (count + rest ≤ n + 1) × (count + digitCount rest ≡ digitCount n + 1)

@@ -1,12 +1,12 @@
--- `text::write_decimal` meets its contract: each turn puts the last digit of what is left before the digits that stand.
-use Rattle.text.proofs.Writers.{Spelling, spelling-none, spelling-one, spelling-all}
+-- `decimal::write_decimal` meets its contract: each turn puts the last digit of what is left before the digits that stand.
+use Rattle.decimal.proofs.Spelling.{Spelling, spelling-none, spelling-one, spelling-all}
 use borrow.Author.Needs.{needs}
 use native.Mathlib.Omega.{arith}
-use Rattle.text.proofs.write_decimal.Statement.{statement}
-use Rattle.text.proofs.write_decimal.Tie as tie
-use Rattle.text.proofs.write_decimal.Reads as reads
-use Rattle.text.proofs.write_decimal.Lts as lts
-use Rattle.text.proofs.digit_count.Reads as digit-count-reads
+use Rattle.decimal.proofs.write_decimal.Statement.{statement}
+use Rattle.decimal.proofs.write_decimal.Tie as tie
+use Rattle.decimal.proofs.write_decimal.Reads as reads
+use Rattle.decimal.proofs.write_decimal.Lts as lts
+use Rattle.decimal.proofs.digit_count.Reads as digit-count-reads
 
 abbrev Inv-loop : tie.InvT-loop
 Inv-loop n buffer₀ at end i₀ rest₀ buffer i rest = Spelling n buffer₀ at buffer i rest

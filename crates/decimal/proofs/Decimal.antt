@@ -12,7 +12,7 @@ use lib.ListN.{length, take, getD, length-append, List·getD-append}
 use lib.Seq.{take-suc, take-all, length-take-le, getD-take, getD-at}
 use Rattle.words.specs.Bounded.{smallest}
 use Rattle.words.proofs.Bounded.{le-or-lt, le-cases, smallest-le, smallest-passes, smallest-most}
-use Rattle.text.specs.Decimal.{lastDigits, digitCount, decimal, readBehind, read}
+use Rattle.decimal.specs.Decimal.{lastDigits, digitCount, decimal, readBehind, read, Digit, Digits}
 
 -- the number of digits
 power-above : (n : ℕ) → n < 10 ^ suc n
@@ -65,12 +65,6 @@ length-last (suc k) n = length-append (lastDigits k (n / 10)) ((48 + n % 10) ∷
 pub length-decimal : (n : ℕ) → length (decimal n) ≡ digitCount n
 unfolding decimal
 length-decimal n = length-last (digitCount n) n
-
-abbrev Digit : ℕ → Type 0
-Digit c = (48 ≤ c) × (c ≤ 57)
-
-abbrev Digits : List ℕ → Type 0
-Digits cs = (k : ℕ) → k < length cs → Digit (getD cs k 0)
 
 last-digits : (k n i : ℕ) → i < k → Digit (getD (lastDigits k n) i 0)
 last-digits zero n i h = absurd (omega arith)
@@ -144,7 +138,7 @@ no-leading-zero (suc n) e = absurd (go (digitCount (suc n)) refl)
 -- The text of a number: digits that read back as it, with no leading zero but in `0` itself.
 pub record DecimalText (n : ℕ) (cs : List ℕ) : Type 0 where
   pub some : 0 < length cs
-  pub digits : (k : ℕ) → k < length cs → (48 ≤ getD cs k 0) × (getD cs k 0 ≤ 57)
+  pub digits : Digits cs
   pub reads : read cs ≡ n
   pub leading : getD cs 0 0 ≡ 48 → cs ≡ 48 ∷ []
 

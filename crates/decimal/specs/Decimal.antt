@@ -1,10 +1,10 @@
--- Characters, numbers in decimal and bytes in hexadecimal, as lists of ASCII codes.
+-- Characters and numbers in decimal, as lists of ASCII codes.
 use mathlib.Core.List.{List, [], _∷_, _++_}
 use Prim.Native.Char.{code}
-use Prim.Native.Nat.{ℕ, zero, suc, _+_, _-_, _*_, _/_, _%_, _^_}
+use Prim.Native.Nat.{ℕ, zero, suc, _+_, _-_, _*_, _/_, _%_, _^_, _≤_, _<_}
 use Prim.Native.String.{String, [] as none, _∷_ as _then_}
 use lib.Dec.{ltb}
-use Rattle.hex.specs.Hex.{pairOf}
+use lib.ListN.{length, getD}
 use Rattle.words.specs.Bounded.{smallest}
 
 -- The codes of a text's characters.
@@ -33,7 +33,9 @@ readBehind n (c ∷ cs) = readBehind (10 * n + (c - 48)) cs
 abbrev pub read : List ℕ → ℕ
 read cs = readBehind 0 cs
 
--- Bytes, two hexadecimal digits each.
-abbrev pub hexadecimal : List ℕ → List ℕ
-hexadecimal [] = []
-hexadecimal (b ∷ bs) = pairOf b ++ hexadecimal bs
+-- The code of a decimal digit.
+abbrev pub Digit : ℕ → Type 0
+Digit c = (48 ≤ c) × (c ≤ 57)
+
+abbrev pub Digits : List ℕ → Type 0
+Digits cs = (k : ℕ) → k < length cs → Digit (getD cs k 0)

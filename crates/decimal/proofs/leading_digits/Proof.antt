@@ -1,15 +1,15 @@
--- `edit_file::leading_digits` meets its contract: the bytes before place `count` are digits.
+-- `decimal::leading_digits` meets its contract: the bytes before place `count` are digits.
 use Prim.Native.Nat.{ℕ, _≤_, _<_, _-_}
 use lib.ListN.{length, getD}
 use borrow.Author.Count.{below-more}
-use Rattle.edit_file.specs.EditFile.{Digit}
-use Rattle.edit_file.proofs.Digits.{leading-end}
+use Rattle.decimal.specs.Decimal.{Digit}
+use Rattle.decimal.proofs.Digits.{leading-end}
 use borrow.Author.Needs.{needs}
 use native.Mathlib.Omega.{arith}
-use Rattle.edit_file.proofs.leading_digits.Statement.{statement}
-use Rattle.edit_file.proofs.leading_digits.Tie as tie
-use Rattle.edit_file.proofs.leading_digits.Reads as reads
-use Rattle.edit_file.proofs.leading_digits.Lts as lts
+use Rattle.decimal.proofs.leading_digits.Statement.{statement}
+use Rattle.decimal.proofs.leading_digits.Tie as tie
+use Rattle.decimal.proofs.leading_digits.Reads as reads
+use Rattle.decimal.proofs.leading_digits.Lts as lts
 
 abbrev Inv-loop : tie.InvT-loop
 Inv-loop text count₀ count = (count ≤ length text) × ((k : ℕ) → k < count → Digit (getD text k 0))

@@ -1,15 +1,14 @@
--- `text::write_bytes` meets its contract: the first k bytes stand in the buffer, and the others are left.
+-- `rows::write_bytes` meets its contract: the first k bytes stand in the buffer, and the others are left.
 use Prim.Native.Nat.{_≤_, _-_}
 use lib.ListN.{length, drop}
 use Rattle.rows.proofs.Wrote.{wrote-length}
-use Rattle.text.proofs.Puts.{Putting, putting-none, putting-all}
-use Rattle.text.proofs.Writers.{byte-room, byte-turn, bytes-end}
+use Rattle.rows.proofs.Puts.{Putting, putting-none, putting-all, byte-room, byte-turn, bytes-end}
 use borrow.Author.Needs.{needs}
 use native.Mathlib.Omega.{arith}
-use Rattle.text.proofs.write_bytes.Statement.{statement}
-use Rattle.text.proofs.write_bytes.Tie as tie
-use Rattle.text.proofs.write_bytes.Reads as reads
-use Rattle.text.proofs.write_bytes.Lts as lts
+use Rattle.rows.proofs.write_bytes.Statement.{statement}
+use Rattle.rows.proofs.write_bytes.Tie as tie
+use Rattle.rows.proofs.write_bytes.Reads as reads
+use Rattle.rows.proofs.write_bytes.Lts as lts
 
 abbrev Inv-loop : tie.InvT-loop
 Inv-loop bytes buffer₀ at next₀ k₀ buffer next k = (k ≤ length bytes) × Putting bytes at buffer₀ buffer next (drop k bytes)

@@ -1,14 +1,14 @@
--- `edit_file::value_of` meets its contract: the digits before place k are read.
+-- `decimal::value_of` meets its contract: the digits before place k are read.
 use mathlib.Core.Path.{refl}
 use Prim.Native.Nat.{_-_}
 use lib.ListN.{length}
-use Rattle.edit_file.proofs.Digits.{Reading, reading-small, reading-turn, reading-end}
+use Rattle.decimal.proofs.Digits.{Reading, reading-small, reading-turn, reading-end}
 use borrow.Author.Needs.{needs}
 use native.Mathlib.Omega.{arith}
-use Rattle.edit_file.proofs.value_of.Statement.{statement}
-use Rattle.edit_file.proofs.value_of.Tie as tie
-use Rattle.edit_file.proofs.value_of.Reads as reads
-use Rattle.edit_file.proofs.value_of.Lts as lts
+use Rattle.decimal.proofs.value_of.Statement.{statement}
+use Rattle.decimal.proofs.value_of.Tie as tie
+use Rattle.decimal.proofs.value_of.Reads as reads
+use Rattle.decimal.proofs.value_of.Lts as lts
 
 abbrev Inv-loop : tie.InvT-loop
 Inv-loop digits value₀ k₀ value k = Reading digits value k
