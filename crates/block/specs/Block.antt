@@ -46,12 +46,20 @@ blockBytes block = take (bytesCount block) (drop (bytesPlace block) block)
 abbrev pub digit : ℕ → Bool
 digit c = leb 48 c && leb c 57
 
+-- The hash mark, a digit 1 to 9, and as many digits as it says.
+abbrev pub headed : List ℕ → Bool
+headed block =
+    same (take 1 block) (codes "#") && leb 1 (digitsSaid block) && leb (digitsSaid block) 9
+    && every (λ k. digit (getD (countDigits block) k 0)) (digitsSaid block)
+
+-- Nothing, or one line feed.
+abbrev pub closed : List ℕ → Bool
+closed rest = same rest [] || same rest (codes "\n")
+
 unfoldable pub isBlock : List ℕ → Bool
 isBlock block =
     let end = bytesPlace block + bytesCount block in
-    same (take 1 block) (codes "#") && leb 1 (digitsSaid block) && leb (digitsSaid block) 9
-    && every (λ k. digit (getD (countDigits block) k 0)) (digitsSaid block)
-    && leb end (length block) && (same (drop end block) [] || same (drop end block) (codes "\n"))
+    headed block && leb end (length block) && closed (drop end block)
 
 -- The block that is written for a pattern: the fewest digits, and no line feed.
 unfoldable pub blockOf : List ℕ → List ℕ

@@ -103,6 +103,9 @@ read-below m (c ∷ cs) d =
     rw (pow-succ' 10 (length cs))
     (omega (arith, read-below (10 * m + (c - 48)) cs (λ k h. d (suc k) (omega arith)), mul-le-mul-right (10 ^ length cs) e))
 
+pub read-nine : (cs : List ℕ) → length cs ≤ 9 → Digits cs → read cs < 1000000000
+read-nine cs h d = omega (arith, read-below 0 cs d, pow-le-pow-right {n = 10} (omega arith) h)
+
 -- digits are those of the number that they are read as
 last-only : (k : ℕ) (cs : List ℕ) → length cs ≡ k → Digits cs → cs ≡ lastDigits k (read cs)
 last-only zero [] e d = refl

@@ -1,3 +1,4 @@
 pub mod Decimal
 pub mod Spelling
 pub mod Digits
+pub mod Zeros

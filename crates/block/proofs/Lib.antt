@@ -1,0 +1,5 @@
+pub mod Placed
+pub mod Tested
+pub mod Missing
+pub mod Outcome
+pub mod Theorems

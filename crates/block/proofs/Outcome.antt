@@ -1,0 +1,89 @@
+-- The outcome of the calls on blocks by the first refusal that holds, and the length of a written block.
+use mathlib.Core.List.{List, [], _++_}
+use mathlib.Core.Path.{_≡_, refl, sym, ap, _∙_}
+use Prim.Native.Nat.{ℕ, suc, _+_, _≤_, _<_}
+use native.Mathlib.Omega.{arith}
+use lib.ListN.{length, length-append}
+use Rattle.decimal.specs.Decimal.{codes, decimal}
+use Rattle.decimal.proofs.Decimal.{length-decimal, count-least}
+use Rattle.rows.specs.Written.{Puts}
+use Rattle.rows.proofs.Puts.{puts-then}
+use Rattle.refusals.proofs.First.{First, none, holds, passes, too-long, not-long, first-is}
+use Rattle.refusals.specs.Refusals.{firstOf, unlessRefused, maxPattern}
+use Rattle.block.specs.Block.{Block, bytesPlace, bytesCount, blockBytes, blockOf}
+use Rattle.block.specs.Calls.{readRefusals, notBlock, BlockRead}
+use Rattle.block.specs.declared.Extent.{Extent}
+use Rattle.block.proofs.Placed.{decimal-one}
+use Rattle.block.proofs.Tested.{block-test, block-place, block-count, block-holds, no-block}
+
+module _ {block : List ℕ} where
+  pub first-nine : ((place count : ℕ) → Block block place count → ⊥) → firstOf (readRefusals block) ≡ 9
+  first-nine h =
+      let f : First (readRefusals block) 9 = holds {r = notBlock block} (rw (no-block h) refl) in
+      first-is f
+
+  module _ {place count : ℕ} (b : Block block place count) where
+    size : length (blockBytes block) ≡ count
+    size = ap length (block-holds b) ∙ sym (b .size)
+
+    pub first-one : maxPattern < count → firstOf (readRefusals block) ≡ 1
+    first-one h =
+        let f : First (readRefusals block) 1 = passes {r = notBlock block} (rw (block-test b) refl) (too-long (blockBytes block) (omega (arith, size))) in
+        first-is f
+
+    pub first-none : count ≤ maxPattern → firstOf (readRefusals block) ≡ 0
+    first-none h = first-is (passes {r = notBlock block} (rw (block-test b) refl) (not-long (blockBytes block) (omega (arith, size)) none))
+
+-- what the reader answers
+module _ {block : List ℕ} {r : Extent} where
+  pub read-refused : {k : ℕ} → firstOf (readRefusals block) ≡ suc k → (r .refusal ≡ suc k) × (r .place ≡ 0) × (r .count ≡ 0) → BlockRead block r
+  read-refused f q =
+      record {
+        refusal = q .0 ∙ sym f;
+        place = q .1 ∙ ap (λ n. unlessRefused n (bytesPlace block) 0) (sym f);
+        count = q .2 ∙ ap (λ n. unlessRefused n (bytesCount block) 0) (sym f);
+      }
+
+  pub read-accepted : {place count : ℕ} → Block block place count → count ≤ maxPattern → r .refusal ≡ 0 → r .place ≡ place → r .count ≡ count
+      → BlockRead block r
+  read-accepted b h e p c =
+      let f = sym (first-none b h) in
+      record {
+        refusal = e ∙ f;
+        place = p ∙ sym (block-place b) ∙ ap (λ n. unlessRefused n (bytesPlace block) 0) f;
+        count = c ∙ sym (block-count b) ∙ ap (λ n. unlessRefused n (bytesCount block) 0) f;
+      }
+
+-- the block of a pattern, part by part
+module _ (s : List ℕ) (h : length s ≤ maxPattern) where
+  abbrev digits : List ℕ
+  digits = decimal (length s)
+
+  pub few-digits : length digits ≤ 4
+  few-digits = omega (arith, length-decimal (length s), count-least (length s) 3 (omega arith))
+
+  pub one-digit : length (decimal (length digits)) ≡ 1
+  one-digit = ap length (decimal-one (length digits) (omega (arith, few-digits)))
+
+  pub length-block : length (blockOf s) ≡ 2 + length digits + length s
+  unfolding blockOf
+  length-block =
+      let mark = codes "#" ++ decimal (length digits) in
+      omega (
+        arith,
+        one-digit,
+        length-append (codes "#") (decimal (length digits)),
+        length-append mark digits,
+        length-append (mark ++ digits) s,
+      )
+
+  pub block-put : (d : List ℕ) {said : ℕ} {b₁ b₂ b₃ b₄ : List ℕ} {n₁ n₂ n₃ n₄ : ℕ} → length (blockOf s) ≤ length d → said ≡ length digits
+      → Puts (codes "#") 0 d b₁ n₁ → Puts (decimal said) n₁ b₁ b₂ n₂ → Puts digits n₂ b₂ b₃ n₃ → Puts s n₃ b₃ b₄ n₄ → Puts (blockOf s) 0 d b₄ n₄
+  unfolding blockOf
+  block-put d k e p₁ p₂ p₃ p₄ =
+      let mark = codes "#" ++ decimal (length digits) in
+      let m₂ = length-append (codes "#") (decimal (length digits)) in
+      let m₃ = length-append mark digits in
+      let n = length-block in
+      let one = one-digit in
+      puts-then (puts-then (puts-then p₁ (rw e at p₂) (omega arith)) p₃ (omega arith)) p₄ (omega arith)
