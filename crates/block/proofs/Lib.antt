@@ -3,3 +3,5 @@ pub mod Tested
 pub mod Missing
 pub mod Outcome
 pub mod Theorems
+pub mod Again
+pub mod Examples

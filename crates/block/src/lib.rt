@@ -72,7 +72,7 @@ fn locate(block: &[u8]) -> Located
     let count = value_of(&block[2..place]);
     let end = place + count;
     if size < end {
-        return Located::Nowhere;
+        return Located::Nowhere; // bytes are missing
     }
     if end + 1 < size {
         return Located::Nowhere;
