@@ -16,6 +16,14 @@ use Rattle.block.specs.Calls.{readRefusals}
 use Rattle.block.proofs.Outcome.{first-none, few-digits, length-block}
 use Rattle.block.proofs.Tested.{test-block, block-test, block-place, block-count, block-holds}
 
+-- the test is right, and the functions give the parts
+pub tested-block : (block : List ℕ) → isBlock block ≡ true → Block block (bytesPlace block) (bytesCount block)
+tested-block = test-block
+
+pub block-tested : {block : List ℕ} {place count : ℕ} (b : Block block place count)
+    → (isBlock block ≡ true) × (bytesPlace block ≡ place) × (bytesCount block ≡ count) × (blockBytes block ≡ b .bytes)
+block-tested b = (block-test b, block-place b, block-count b, block-holds b)
+
 -- place and count are functions of the bytes
 pub block-only : {block : List ℕ} {place count place′ count′ : ℕ} → Block block place count → Block block place′ count′
     → (place ≡ place′) × (count ≡ count′)
