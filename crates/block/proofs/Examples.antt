@@ -1,6 +1,5 @@
 -- Blocks of the request and their neighbours, computed from the definitions: what is a block, where its bytes are, and what is written.
-use mathlib.Core.Bool.{true, false}
-use mathlib.Core.List.{List, [], _∷_}
+use mathlib.Core.List.{List, []}
 use mathlib.Core.Path.{_≡_, refl}
 use Prim.Native.Nat.{ℕ}
 use Rattle.decimal.specs.Decimal.{codes, decimal, digitCount}

@@ -1,12 +1,12 @@
 -- A definite length block by places: which bytes stand where, and how long it is. It is the same as the block by its parts.
 use mathlib.Core.List.{List, [], _∷_, _++_, append-assoc}
-use mathlib.Core.Logic.{_⊎_, inl, inr}
+use mathlib.Core.Logic.{_⊎_}
 use mathlib.Core.Path.{_≡_, refl, sym, ap, _∙_}
 use Prim.Native.Nat.{ℕ, suc, _+_, _%_, _≤_}
 use native.Mathlib.Omega.{arith}
-use lib.ListN.{length, take, drop, getD, length-append, length-drop, take-append-drop, drop-of-length-le}
+use lib.ListN.{length, take, drop, getD, length-append, length-drop, take-append-drop}
 use lib.Seq.{drop-cons, drop-drop, drop-at, take-at, length-take-le}
-use Rattle.decimal.specs.Decimal.{codes, decimal, digitCount, lastDigits, read, Digits}
+use Rattle.decimal.specs.Decimal.{codes, decimal, read, Digits}
 use Rattle.decimal.proofs.Decimal.{count-one}
 use Rattle.block.specs.Block.{Block}
 

@@ -1,9 +1,9 @@
 -- The test of a definite length block: it holds exactly where the bytes stand in their places.
-use mathlib.Core.Bool.{Bool, true, false, _&&_, _||_}
+use mathlib.Core.Bool.{Bool, true, false, _&&_}
 use mathlib.Core.List.{List, [], _∷_}
 use mathlib.Core.Logic.{_⊎_, inl, inr}
 use mathlib.Core.Path.{_≡_, refl, sym, ap, _∙_}
-use Prim.Native.Nat.{ℕ, _+_, _-_, _≤_, _<_}
+use Prim.Native.Nat.{ℕ, _+_, _-_, _≤_}
 use native.Mathlib.Omega.{arith}
 use borrow.Author.Tests.{leb-true, le-leb}
 use lib.Dec.{leb}
@@ -12,7 +12,7 @@ use lib.Seq.{drop-cons, length-take-le}
 use Rattle.decimal.specs.Decimal.{codes, Digit}
 use Rattle.words.specs.Bounded.{every}
 use Rattle.words.specs.Order.{same}
-use Rattle.words.proofs.Bounded.{and-true, true-false, true-or-false, every-true, true-every}
+use Rattle.words.proofs.Bounded.{and-true, true-or-false, every-true, true-every}
 use Rattle.words.proofs.Order.{same-true, true-same}
 use Rattle.block.specs.Block.{Block, digitsSaid, countDigits, bytesPlace, bytesCount, blockBytes, digit, headed, closed, isBlock}
 use Rattle.block.proofs.Placed.{Placed, block-placed, block-bytes, placed-block}

@@ -1,12 +1,12 @@
 -- What is proved of definite length blocks and of the calls on them: the test is right, a list of bytes is a block in at most one way, a
 -- written block is read again with the pattern, and a read block written again differs only where it may.
-use mathlib.Core.Bool.{Bool, true, false}
-use mathlib.Core.List.{List, [], _∷_, _++_, append-nil}
-use mathlib.Core.Logic.{_⊎_, inl, inr}
+use mathlib.Core.Bool.{true}
+use mathlib.Core.List.{List, [], _++_, append-nil}
+use mathlib.Core.Logic.{_⊎_, inl}
 use mathlib.Core.Path.{_≡_, refl, sym, ap, _∙_}
-use Prim.Native.Nat.{ℕ, suc, _+_, _≤_, _<_}
+use Prim.Native.Nat.{ℕ, _+_, _≤_, _<_}
 use native.Mathlib.Omega.{arith}
-use lib.ListN.{length, take, drop, replicate, length-append, length-replicate}
+use lib.ListN.{length, replicate, length-append, length-replicate}
 use Rattle.decimal.specs.Decimal.{codes, decimal, read}
 use Rattle.decimal.proofs.Decimal.{length-decimal, count-least, decimal-text}
 use Rattle.decimal.proofs.Zeros.{digits-padded}

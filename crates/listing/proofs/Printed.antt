@@ -4,7 +4,7 @@ use mathlib.Core.Logic.{_⊎_, inl, inr}
 use mathlib.Core.Path.{_≡_, refl, sym, ap, _∙_}
 use Prim.Native.Nat.{ℕ, zero, suc, _≤_, _<_}
 use native.Mathlib.Omega.{arith}
-use lib.ListN.{length, drop, length-append}
+use lib.ListN.{length}
 use Rattle.lyndon_text.specs.Calls.{ListingWritten}
 use Rattle.refusals.specs.Refusals.{firstOf, rowAfter, maxPattern, patternTooLong, tooShort}
 use Rattle.refusals.specs.declared.Filled.{Filled}
