@@ -35,11 +35,13 @@ true-closed xs (inr e) = rw e refl
 -- a digit
 digit-true : (c : ℕ) → digit c ≡ true → Digit c
 digit-true c e =
-    let p = and-true (leb 48 c) (leb c 57) e in
-    (leb-true 48 c (p .0), leb-true c 57 (p .1))
+    let p = and-true _ _ e in
+    let low = leb-true _ c (p .0) in
+    let high = leb-true c _ (p .1) in
+    (omega arith, omega arith)
 
 true-digit : (c : ℕ) → Digit c → digit c ≡ true
-true-digit c d = true-and (le-leb 48 c (d .0)) (le-leb c 57 (d .1))
+true-digit c d = true-and (le-leb _ c (omega (arith, d .0))) (le-leb c _ (omega (arith, d .1)))
 
 module _ (block : List ℕ) where
   abbrev n : ℕ
