@@ -1,7 +1,8 @@
--- Blocks of the request and their neighbours, computed from the definitions: what is a block, where its bytes are, and what is written.
-use mathlib.Core.List.{List, []}
+-- Blocks and their neighbours, computed from the definitions: what is a block, where its bytes are, and what is written.
+use mathlib.Core.List.{List, [], _++_}
 use mathlib.Core.Path.{_≡_, refl}
 use Prim.Native.Nat.{ℕ}
+use lib.ListN.{replicate}
 use Rattle.decimal.specs.Decimal.{codes, decimal, digitCount}
 use Rattle.refusals.specs.Refusals.{firstOf}
 use Rattle.block.specs.Block.{isBlock, bytesPlace, bytesCount, blockBytes, blockOf}
@@ -24,6 +25,12 @@ pub example-refused : refuses (codes "") × refuses (codes "#") × refuses (code
     × refuses (codes "#2 1a") × refuses (codes "#9999999999abc")
 unfolding isBlock bytesPlace bytesCount blockBytes
 example-refused = (refl, refl, refl, refl, refl, refl, refl, refl, refl, refl, refl, refl)
+
+-- 4,096 bytes are read, 4,097 are too many, and with a byte too many it is 9 that is told
+pub example-order : (firstOf (readRefusals (codes "#44096" ++ replicate 4096 97)) ≡ 0) × (firstOf (readRefusals (codes "#44097" ++ replicate 4097 97)) ≡ 1)
+    × (firstOf (readRefusals (codes "#44097" ++ replicate 4098 97)) ≡ 9)
+unfolding isBlock bytesPlace bytesCount blockBytes
+example-order = (refl, refl, refl)
 
 pub example-written : (blockOf [] ≡ codes "#10") × (blockOf (codes "abc") ≡ codes "#13abc") × (blockOf (codes "0123456789") ≡ codes "#2100123456789")
 unfolding blockOf decimal digitCount

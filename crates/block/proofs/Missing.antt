@@ -9,10 +9,8 @@ use lib.Seq.{drop-cons, length-take-le}
 use Rattle.decimal.specs.Decimal.{codes, read, Digits}
 use Rattle.decimal.specs.Leading.{Leading}
 use Rattle.block.specs.Block.{Block}
+use Rattle.block.specs.Inner.{NoBlock}
 use Rattle.block.proofs.Placed.{Placed, block-placed, placed-block}
-
-abbrev pub Nowhere : List ℕ → Type 0
-Nowhere block = (place count : ℕ) → Block block place count → ⊥
 
 -- what the byte after the hash mark must be
 pub not-said : {x n c : ℕ} {block : List ℕ} → (x ≡ 48) ⊎ ((x < 48) ⊎ (57 < x)) → getD block 1 0 ≡ x → Placed block n c → ⊥
@@ -21,10 +19,10 @@ not-said (inr (inl h)) q p = omega (arith, p .said)
 not-said (inr (inr h)) q p = omega (arith, p .said, p .few)
 
 module _ {block : List ℕ} where
-  pub too-few : length block < 2 → Nowhere block
+  pub too-few : length block < 2 → NoBlock block
   too-few h place count b = omega (arith, block-placed b .fits)
 
-  pub not-marked : (getD block 0 0 ≡ 35 → ⊥) → Nowhere block
+  pub not-marked : (getD block 0 0 ≡ 35 → ⊥) → NoBlock block
   not-marked h place count b = h (block-placed b .mark)
 
 -- the digits as the code cuts them out
@@ -44,7 +42,7 @@ module _ (block : List ℕ) (n : ℕ) (said : getD block 1 0 ≡ 48 + n) where
       let e : length (b .digits) ≡ n = omega (arith, p .said) in
       rw e at p
 
-  pub cut-short : length block < 2 + n → Nowhere block
+  pub cut-short : length block < 2 + n → NoBlock block
   cut-short h place count b = omega (arith, placed b .fits)
 
   module _ (fits : 2 + n ≤ length block) where
@@ -52,7 +50,7 @@ module _ (block : List ℕ) (n : ℕ) (said : getD block 1 0 ≡ 48 + n) where
     length-field = ap length (field-is block n) ∙ length-take-le n (drop 2 block) (omega (arith, length-drop 2 block))
 
     module _ {m : ℕ} (l : Leading (field block n) m) where
-      pub not-digits : m < n → Nowhere block
+      pub not-digits : m < n → NoBlock block
       not-digits h place count b =
           l .stops (rw (field-is block n) (placed b .numeral m (omega (arith, length-field, ap length (field-is block n)))))
 
@@ -67,20 +65,20 @@ module _ (block : List ℕ) (n : ℕ) (said : getD block 1 0 ≡ 48 + n) where
     placed-value : {place count : ℕ} → Block block place count → Placed block n v
     placed-value b = rw (counted b) at (placed b)
 
-    pub not-all : length block < 2 + n + v → Nowhere block
+    pub not-all : length block < 2 + n + v → NoBlock block
     not-all h place count b = omega (arith, placed-value b .fits)
 
     abbrev past : List ℕ
     past = drop (2 + n + v) block
 
-    pub too-many : 2 + n + v + 1 < length block → Nowhere block
+    pub too-many : 2 + n + v + 1 < length block → NoBlock block
     too-many h place count b = go (placed-value b .closes)
       where
         go : (past ≡ []) ⊎ (past ≡ codes "\n") → ⊥
         go (inl q) = omega (arith, ap length q, length-drop (2 + n + v) block)
         go (inr q) = omega (arith, ap length q, length-drop (2 + n + v) block)
 
-    pub not-feed : 2 + n + v < length block → (getD block (2 + n + v) 0 ≡ 10 → ⊥) → Nowhere block
+    pub not-feed : 2 + n + v < length block → (getD block (2 + n + v) 0 ≡ 10 → ⊥) → NoBlock block
     not-feed h f place count b = go (placed-value b .closes)
       where
         go : (past ≡ []) ⊎ (past ≡ codes "\n") → ⊥

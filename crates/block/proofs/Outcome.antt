@@ -12,12 +12,13 @@ use Rattle.refusals.proofs.First.{First, none, holds, passes, too-long, not-lon
 use Rattle.refusals.specs.Refusals.{firstOf, unlessRefused, maxPattern}
 use Rattle.block.specs.Block.{Block, bytesPlace, bytesCount, blockBytes, blockOf}
 use Rattle.block.specs.Calls.{readRefusals, notBlock, BlockRead}
+use Rattle.block.specs.Inner.{NoBlock}
 use Rattle.block.specs.declared.Extent.{Extent}
 use Rattle.block.proofs.Placed.{decimal-one}
 use Rattle.block.proofs.Tested.{block-test, block-place, block-count, block-holds, no-block}
 
 module _ {block : List ℕ} where
-  pub first-nine : ((place count : ℕ) → Block block place count → ⊥) → firstOf (readRefusals block) ≡ 9
+  pub first-nine : NoBlock block → firstOf (readRefusals block) ≡ 9
   first-nine h =
       let f : First (readRefusals block) 9 = holds {r = notBlock block} (rw (no-block h) refl) in
       first-is f
@@ -77,13 +78,13 @@ module _ (s : List ℕ) (h : length s ≤ maxPattern) where
         length-append (mark ++ digits) s,
       )
 
-  pub block-put : (d : List ℕ) {said : ℕ} {b₁ b₂ b₃ b₄ : List ℕ} {n₁ n₂ n₃ n₄ : ℕ} → length (blockOf s) ≤ length d → said ≡ length digits
-      → Puts (codes "#") 0 d b₁ n₁ → Puts (decimal said) n₁ b₁ b₂ n₂ → Puts digits n₂ b₂ b₃ n₃ → Puts s n₃ b₃ b₄ n₄ → Puts (blockOf s) 0 d b₄ n₄
+  pub block-put : (d : List ℕ) {n : ℕ} {b₁ b₂ b₃ b₄ : List ℕ} {n₁ n₂ n₃ n₄ : ℕ} → length (blockOf s) ≤ length d → n ≡ length digits
+      → Puts (codes "#") 0 d b₁ n₁ → Puts (decimal n) n₁ b₁ b₂ n₂ → Puts digits n₂ b₂ b₃ n₃ → Puts s n₃ b₃ b₄ n₄ → Puts (blockOf s) 0 d b₄ n₄
   unfolding blockOf
   block-put d k e p₁ p₂ p₃ p₄ =
       let mark = codes "#" ++ decimal (length digits) in
       let m₂ = length-append (codes "#") (decimal (length digits)) in
       let m₃ = length-append mark digits in
-      let n = length-block in
+      let m = length-block in
       let one = one-digit in
       puts-then (puts-then (puts-then p₁ (rw e at p₂) (omega arith)) p₃ (omega arith)) p₄ (omega arith)

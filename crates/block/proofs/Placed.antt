@@ -41,15 +41,19 @@ module _ {block : List ℕ} {place c : ℕ} (b : Block block place c) where
   front : block ≡ 35 ∷ (48 + n) ∷ rest
   front = b .parts ∙ header-parts n (b .digits) (b .bytes) (b .close) (b .few)
 
-  field : take n (drop 2 block) ≡ b .digits
-  field = ap (λ u. take n (drop 2 u)) front ∙ take-at (b .digits) (b .bytes ++ b .close) n refl
+  pub block-digits : take (length (b .digits)) (drop 2 block) ≡ b .digits
+  block-digits = ap (λ u. take n (drop 2 u)) front ∙ take-at (b .digits) (b .bytes ++ b .close) n refl
 
-  past : drop (2 + n + c) block ≡ b .close
-  past =
+  pub block-close : drop (2 + length (b .digits) + c) block ≡ b .close
+  block-close =
       let e : 2 + n + c ≡ suc (suc (n + length (b .bytes))) = omega (arith, b .size) in
       rw (e, front)
       (sym (drop-drop (length (b .bytes)) n rest) ∙ ap (drop (length (b .bytes))) (drop-at (b .digits) (b .bytes ++ b .close) n refl)
       ∙ drop-at (b .bytes) (b .close) (length (b .bytes)) refl)
+
+  pub block-length : length block ≡ 2 + length (b .digits) + length (b .bytes) + length (b .close)
+  block-length =
+      omega (arith, ap length front, length-append (b .digits) (b .bytes ++ b .close), length-append (b .bytes) (b .close))
 
   pub block-placed : Placed block (length (b .digits)) c
   block-placed =
@@ -58,17 +62,10 @@ module _ {block : List ℕ} {place c : ℕ} (b : Block block place c) where
         said = ap (λ u. getD u 1 0) front;
         some = b .some;
         few = b .few;
-        numeral = rw field (b .numeral);
-        counts = rw field (b .counts ∙ sym (b .size));
-        fits =
-            omega (
-              arith,
-              b .size,
-              ap length front,
-              length-append (b .digits) (b .bytes ++ b .close),
-              length-append (b .bytes) (b .close),
-            );
-        closes = rw past (b .closes);
+        numeral = rw block-digits (b .numeral);
+        counts = rw block-digits (b .counts ∙ sym (b .size));
+        fits = omega (arith, b .size, block-length);
+        closes = rw block-close (b .closes);
       }
 
   pub block-bytes : take c (drop place block) ≡ b .bytes

@@ -15,7 +15,8 @@ use Rattle.words.specs.Order.{same}
 use Rattle.words.proofs.Bounded.{and-true, true-or-false, every-true, true-every}
 use Rattle.words.proofs.Order.{same-true, true-same}
 use Rattle.block.specs.Block.{Block, digitsSaid, countDigits, bytesPlace, bytesCount, blockBytes, digit, headed, closed, isBlock}
-use Rattle.block.proofs.Placed.{Placed, block-placed, block-bytes, placed-block}
+use Rattle.block.specs.Inner.{NoBlock}
+use Rattle.block.proofs.Placed.{Placed, block-placed, block-digits, block-bytes, block-close, placed-block}
 
 true-and : {a b : Bool} → a ≡ true → b ≡ true → (a && b) ≡ true
 true-and e f = rw (e, f) refl
@@ -120,7 +121,13 @@ module _ {block : List ℕ} {place count : ℕ} (b : Block block place count) wh
   unfolding blockBytes
   block-holds = rw (block-place, block-count) (block-bytes b)
 
-pub no-block : {block : List ℕ} → ((place count : ℕ) → Block block place count → ⊥) → isBlock block ≡ false
+  pub block-counts : countDigits block ≡ b .digits
+  block-counts = ap (λ n. take n (drop 2 block)) (placed-said block (block-placed b)) ∙ block-digits b
+
+  pub block-ends : drop (bytesPlace block + bytesCount block) block ≡ b .close
+  block-ends = rw (block-place, block-count, b .behind) (block-close b)
+
+pub no-block : {block : List ℕ} → NoBlock block → isBlock block ≡ false
 no-block {block} h = go (true-or-false (isBlock block))
   where
     go : (isBlock block ≡ true) ⊎ (isBlock block ≡ false) → isBlock block ≡ false

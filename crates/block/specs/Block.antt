@@ -26,14 +26,14 @@ pub record Block (block : List ℕ) (place count : ℕ) : Type 0 where
   pub behind : place ≡ 2 + length digits
   pub size : count ≡ length bytes
 
--- How many digits the byte after the hash mark says, and those digits.
+-- Of a block: how many digits the byte after the hash mark says, and those digits.
 abbrev pub digitsSaid : List ℕ → ℕ
 digitsSaid block = getD block 1 0 - 48
 
 abbrev pub countDigits : List ℕ → List ℕ
 countDigits block = take (digitsSaid block) (drop 2 block)
 
--- Of a block: the place of its bytes, their count, and the bytes.
+-- The place of its bytes, their count, and the bytes.
 unfoldable pub bytesPlace : List ℕ → ℕ
 bytesPlace block = 2 + digitsSaid block
 
@@ -43,10 +43,11 @@ bytesCount block = read (countDigits block)
 unfoldable pub blockBytes : List ℕ → List ℕ
 blockBytes block = take (bytesCount block) (drop (bytesPlace block) block)
 
+-- The test of `Digit`.
 abbrev pub digit : ℕ → Bool
 digit c = leb 48 c && leb c 57
 
--- The hash mark, a digit 1 to 9, and as many digits as it says.
+-- The hash mark, a digit 1 to 9, and as many digits as it says; past the end stands 0, which is no digit.
 abbrev pub headed : List ℕ → Bool
 headed block =
     same (take 1 block) (codes "#") && leb 1 (digitsSaid block) && leb (digitsSaid block) 9
@@ -61,7 +62,7 @@ isBlock block =
     let end = bytesPlace block + bytesCount block in
     headed block && leb end (length block) && closed (drop end block)
 
--- The block that is written for a pattern: the fewest digits, and no line feed.
+-- The block that is written for a pattern of fewer than 1,000,000,000 bytes: the fewest digits, and no line feed.
 unfoldable pub blockOf : List ℕ → List ℕ
 blockOf s =
     let digits = decimal (length s) in

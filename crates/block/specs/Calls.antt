@@ -14,7 +14,7 @@ use Rattle.block.specs.declared.Extent.{Extent}
 abbrev pub notBlock : List ℕ → Refusal
 notBlock block = record { number = 9; holds = not (isBlock block) }
 
--- read_block; the pattern whose length is tested is what the block holds
+-- read_block; the pattern whose length is tested is what the block holds, and it is tested of a block only
 abbrev pub readRefusals : List ℕ → List Refusal
 readRefusals block = notBlock block ∷ patternTooLong (blockBytes block) ∷ []
 

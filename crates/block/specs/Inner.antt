@@ -14,6 +14,9 @@ HeaderOf c (Definite digits) = (c ≡ 48 + digits) × (1 ≤ digits) × (digits 
 HeaderOf c Indefinite = c ≡ 48
 HeaderOf c Other = (c < 48) ⊎ (57 < c)
 
+abbrev pub NoBlock : List ℕ → Type 0
+NoBlock block = (place count : ℕ) → Block block place count → ⊥
+
 abbrev pub Locates : List ℕ → Located → Type 0
 Locates block (Bytes s) = Block block (s .place) (s .count)
-Locates block Nowhere = (place count : ℕ) → Block block place count → ⊥
+Locates block Nowhere = NoBlock block

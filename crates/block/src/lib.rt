@@ -72,7 +72,7 @@ fn locate(block: &[u8]) -> Located
     let count = value_of(&block[2..place]);
     let end = place + count;
     if size < end {
-        return Located::Nowhere; // bytes are missing
+        return Located::Nowhere;
     }
     if end + 1 < size {
         return Located::Nowhere;
@@ -86,7 +86,7 @@ fn locate(block: &[u8]) -> Located
 }
 
 // What the reader answers where this number refuses it.
-fn unread(number: u8) -> Extent
+fn not_read(number: u8) -> Extent
     ensures { λ r. ⌜ (r .refusal ≡ number) × (r .place ≡ 0) × (r .count ≡ 0) ⌝ }
 {
     Extent {
@@ -101,10 +101,10 @@ pub fn read_block(bytes: &[u8]) -> Extent
     ensures { λ r. ⌜ BlockRead (now (bytes .entry)) r ⌝ }
 {
     let Located::Bytes(found) = locate(bytes) else {
-        return unread(9);
+        return not_read(9);
     };
     if MAX_PATTERN < found.count {
-        return unread(1);
+        return not_read(1);
     }
     Extent {
         refusal: 0,
@@ -125,9 +125,9 @@ pub fn write_block(pattern: &[u8], bytes: &mut [u8]) -> Filled
     if bytes.len() < 2 + digits + size {
         return refused(8);
     }
-    let said = write_bytes(&MARK, bytes, 0);
-    let field = write_decimal(digits, bytes, said);
-    let place = write_decimal(size, bytes, field);
+    let second = write_bytes(&MARK, bytes, 0);
+    let third = write_decimal(digits, bytes, second);
+    let place = write_decimal(size, bytes, third);
     Filled {
         refusal: 0,
         count: write_bytes(pattern, bytes, place),

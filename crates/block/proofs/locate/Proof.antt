@@ -84,10 +84,16 @@ returns-5 c =
     not-digits block n (header .0) (omega arith) (c .before .leading-digits .ensures) (search needs)
 
 sub-value-of : tie.Need-sub-value-of
-sub-value-of c = search needs
+sub-value-of c =
+    let a = c .before .before .before .before .before in
+    let header = rw (a .digits .given .1) at (a .before .before .header-of .ensures) in
+    omega (arith, header .1)
 
 part-value-of-start : tie.Need-part-value-of-start
-part-value-of-start c = search needs
+part-value-of-start c =
+    let a = c .before .before .before .before .before in
+    let header = rw (a .digits .given .1) at (a .before .before .header-of .ensures) in
+    omega (arith, header .1)
 
 part-value-of-end : tie.Need-part-value-of-end
 part-value-of-end c = search needs

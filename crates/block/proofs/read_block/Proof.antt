@@ -8,7 +8,7 @@ use Rattle.block.proofs.read_block.Tie as tie
 use Rattle.block.proofs.read_block.Reads as reads
 use Rattle.block.proofs.read_block.Lts as lts
 use Rattle.block.proofs.locate.Reads as locate-reads
-use Rattle.block.proofs.unread.Reads as unread-reads
+use Rattle.block.proofs.not_read.Reads as not-read-reads
 
 locate-requires : tie.Need-locate-requires
 locate-requires c κs = search needs
@@ -19,23 +19,23 @@ enum-known-found c = search needs
 enum-told : tie.Need-enum-told
 enum-told c = search needs
 
-unread-requires : tie.Need-unread-requires
-unread-requires c κs = search needs
+not-read-requires : tie.Need-not-read-requires
+not-read-requires c κs = search needs
 
 returns : tie.Need-returns
 returns c =
     let e = c .before in
     let nowhere = rw (e .enum-told .given .1) at (e .before .before .locate .ensures) in
-    read-refused (first-nine nowhere) (c .unread .ensures)
+    read-refused (first-nine nowhere) (c .not-read .ensures)
 
-unread-requires-2 : tie.Need-unread-requires-2
-unread-requires-2 c κs = search needs
+not-read-requires-2 : tie.Need-not-read-requires-2
+not-read-requires-2 c κs = search needs
 
 returns-2 : tie.Need-returns-2
 returns-2 c =
     let a = c .before .before .before .before in
     let found = rw (a .found .given .1) at (a .before .before .locate .ensures) in
-    read-refused (first-one found (omega arith)) (c .unread2 .ensures)
+    read-refused (first-one found (omega arith)) (c .not-read2 .ensures)
 
 returns-3 : tie.Need-returns-3
 returns-3 c =
@@ -50,8 +50,8 @@ read-block-spec =
     locate-requires
     enum-known-found
     enum-told
-    unread-requires
+    not-read-requires
     returns
-    unread-requires-2
+    not-read-requires-2
     returns-2
     returns-3)
