@@ -1,4 +1,5 @@
 pub mod Placed
+pub mod Ends
 pub mod Tested
 pub mod Missing
 pub mod Outcome

@@ -1,15 +1,18 @@
 -- Why bytes are no definite length block, test by test, and why they are one where every test passes.
-use mathlib.Core.List.{List, [], _∷_}
+use mathlib.Core.Bool.{true, false}
+use mathlib.Core.List.{List}
 use mathlib.Core.Logic.{_⊎_, inl, inr}
 use mathlib.Core.Path.{_≡_, refl, sym, ap, _∙_}
-use Prim.Native.Nat.{ℕ, suc, _+_, _-_, _≤_, _<_}
+use Prim.Native.Nat.{ℕ, _+_, _-_, _≤_, _<_}
 use native.Mathlib.Omega.{arith}
-use lib.ListN.{length, take, drop, getD, length-drop, drop-of-length-le}
-use lib.Seq.{drop-cons, length-take-le}
-use Rattle.decimal.specs.Decimal.{codes, read, Digits}
+use lib.ListN.{length, take, drop, getD, length-drop}
+use lib.Seq.{length-take-le}
+use Rattle.decimal.specs.Decimal.{read, Digits}
 use Rattle.decimal.specs.Leading.{Leading}
-use Rattle.block.specs.Block.{Block}
+use Rattle.words.proofs.Bounded.{true-false}
+use Rattle.block.specs.Block.{Block, endsAt}
 use Rattle.block.specs.Inner.{NoBlock}
+use Rattle.block.proofs.Ends.{ends-true, true-ends}
 use Rattle.block.proofs.Placed.{Placed, block-placed, placed-block}
 
 -- what the byte after the hash mark must be
@@ -59,55 +62,26 @@ module _ (block : List ℕ) (n : ℕ) (said : getD block 1 0 ≡ 48 + n) where
 
   -- with v bytes, as the digits say
   module _ {v : ℕ} (value : v ≡ read (field block n)) where
-    counted : {place count : ℕ} → Block block place count → count ≡ v
-    counted b = sym (placed b .counts) ∙ sym (ap read (field-is block n)) ∙ sym value
-
     placed-value : {place count : ℕ} → Block block place count → Placed block n v
-    placed-value b = rw (counted b) at (placed b)
+    placed-value b =
+        let e = sym (placed b .counts) ∙ sym (ap read (field-is block n)) ∙ sym value in
+        rw e at (placed b)
 
-    pub not-all : length block < 2 + n + v → NoBlock block
-    not-all h place count b = omega (arith, placed-value b .fits)
-
-    abbrev past : List ℕ
-    past = drop (2 + n + v) block
-
-    pub too-many : 2 + n + v + 1 < length block → NoBlock block
-    too-many h place count b = go (placed-value b .closes)
-      where
-        go : (past ≡ []) ⊎ (past ≡ codes "\n") → ⊥
-        go (inl q) = omega (arith, ap length q, length-drop (2 + n + v) block)
-        go (inr q) = omega (arith, ap length q, length-drop (2 + n + v) block)
-
-    pub not-feed : 2 + n + v < length block → (getD block (2 + n + v) 0 ≡ 10 → ⊥) → NoBlock block
-    not-feed h f place count b = go (placed-value b .closes)
-      where
-        go : (past ≡ []) ⊎ (past ≡ codes "\n") → ⊥
-        go (inl q) = omega (arith, ap length q, length-drop (2 + n + v) block)
-        go (inr q) =
-            let e : getD block (2 + n + v) 0 ∷ drop (suc (2 + n + v)) block ≡ codes "\n" = sym (drop-cons block (2 + n + v) 0 h) ∙ q in
-            f (ap (λ u. getD u 0 0) e)
+    pub not-ended : endsAt (2 + n + v) block ≡ false → NoBlock block
+    not-ended e place count b = true-false (true-ends (2 + n + v) block (placed-value b .fits) (placed-value b .closes)) e
 
     -- every test passes
-    module _ (mark : getD block 0 0 ≡ 35) (some : 1 ≤ n) (few : n ≤ 9) (numeral : Digits (field block n)) (all : 2 + n + v ≤ length block) where
-      is-placed : (past ≡ []) ⊎ (past ≡ codes "\n") → Block block (2 + n) v
-      is-placed closes =
-          placed-block
-          (record {
-            mark = mark;
-            said = said;
-            some = some;
-            few = few;
-            numeral = rw (field-is block n) at numeral;
-            counts = sym (ap read (field-is block n)) ∙ sym value;
-            fits = all;
-            closes = closes;
-          })
-
-      pub ends-there : length block ≤ 2 + n + v → Block block (2 + n) v
-      ends-there h = is-placed (inl (drop-of-length-le block h))
-
-      pub ends-in-feed : length block ≡ 2 + n + v + 1 → getD block (2 + n + v) 0 ≡ 10 → Block block (2 + n) v
-      ends-in-feed h f =
-          is-placed
-          (inr (drop-cons block (2 + n + v) 0 (omega arith)
-          ∙ ap (λ u. getD block (2 + n + v) 0 ∷ u) (drop-of-length-le block {i = suc (2 + n + v)} (omega arith)) ∙ ap (λ u. u ∷ []) f))
+    pub ended : getD block 0 0 ≡ 35 → 1 ≤ n → n ≤ 9 → Digits (field block n) → endsAt (2 + n + v) block ≡ true → Block block (2 + n) v
+    ended mark some few numeral e =
+        let ends = ends-true (2 + n + v) block e in
+        placed-block
+        (record {
+          mark = mark;
+          said = said;
+          some = some;
+          few = few;
+          numeral = rw (field-is block n) at numeral;
+          counts = sym (ap read (field-is block n)) ∙ sym value;
+          fits = ends .0;
+          closes = ends .1;
+        })

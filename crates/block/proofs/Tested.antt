@@ -14,24 +14,10 @@ use Rattle.words.specs.Bounded.{every}
 use Rattle.words.specs.Order.{same}
 use Rattle.words.proofs.Bounded.{and-true, true-or-false, every-true, true-every}
 use Rattle.words.proofs.Order.{same-true, true-same}
-use Rattle.block.specs.Block.{Block, digitsSaid, countDigits, bytesPlace, bytesCount, blockBytes, digit, headed, closed, isBlock}
+use Rattle.block.specs.Block.{Block, digitsSaid, countDigits, bytesPlace, bytesCount, blockBytes, digit, headed, endsAt, isBlock}
 use Rattle.block.specs.Inner.{NoBlock}
+use Rattle.block.proofs.Ends.{true-and, ends-true, true-ends}
 use Rattle.block.proofs.Placed.{Placed, block-placed, block-digits, block-bytes, block-close, placed-block}
-
-true-and : {a b : Bool} → a ≡ true → b ≡ true → (a && b) ≡ true
-true-and e f = rw (e, f) refl
-
--- what is left behind the bytes
-closed-true : (xs : List ℕ) → closed xs ≡ true → (xs ≡ []) ⊎ (xs ≡ codes "\n")
-closed-true xs e = go (same xs []) refl
-  where
-    go : (b : Bool) → same xs [] ≡ b → (xs ≡ []) ⊎ (xs ≡ codes "\n")
-    go true q = inl (same-true xs [] q)
-    go false q = inr (same-true xs (codes "\n") (rw q at e))
-
-true-closed : (xs : List ℕ) → (xs ≡ []) ⊎ (xs ≡ codes "\n") → closed xs ≡ true
-true-closed xs (inl e) = rw e refl
-true-closed xs (inr e) = rw e refl
 
 -- a digit
 digit-true : (c : ℕ) → digit c ≡ true → Digit c
@@ -60,13 +46,13 @@ module _ (block : List ℕ) where
   pub test-placed : isBlock block ≡ true → Placed block n c
   unfolding isBlock bytesPlace bytesCount
   test-placed e =
-      let p = and-true (headed block && leb (2 + n + c) (length block)) (closed (drop (2 + n + c) block)) e in
-      let q = and-true (headed block) (leb (2 + n + c) (length block)) (p .0) in
-      let h = and-true (marked && leb 1 n && leb n 9) (every test n) (q .0) in
+      let p = and-true (headed block) (endsAt (2 + n + c) block) e in
+      let q = ends-true (2 + n + c) block (p .1) in
+      let h = and-true (marked && leb 1 n && leb n 9) (every test n) (p .0) in
       let f = and-true (marked && leb 1 n) (leb n 9) (h .0) in
       let m = and-true marked (leb 1 n) (f .0) in
       let some : 1 ≤ n = leb-true 1 n (m .1) in
-      let fits : 2 + n + c ≤ length block = leb-true (2 + n + c) (length block) (q .1) in
+      let fits = q .0 in
       record {
         mark = ap (λ u. getD u 0 0) (sym (ap (take 1) (drop-cons block 0 0 (omega arith))) ∙ same-true (take 1 block) (codes "#") (m .0));
         said = omega arith;
@@ -76,7 +62,7 @@ module _ (block : List ℕ) where
             λ k l. digit-true (getD (countDigits block) k 0) (every-true test n (h .1) k (omega (arith, length-take n (drop 2 block))));
         counts = refl;
         fits = fits;
-        closes = closed-true (drop (2 + n + c) block) (p .1);
+        closes = q .1;
       }
 
   pub placed-said : {m d : ℕ} → Placed block m d → n ≡ m
@@ -95,11 +81,10 @@ module _ (block : List ℕ) where
       (true-and
       (true-and
       (true-and
-      (true-and (true-and (true-same (take 1 block) (codes "#") (ap (take 1) (drop-cons block 0 0 (omega (arith, p .fits))) ∙ ap (λ u. u ∷ []) (p .mark))) (le-leb 1 m (p .some)))
+      (true-and (true-same (take 1 block) (codes "#") (ap (take 1) (drop-cons block 0 0 (omega (arith, p .fits))) ∙ ap (λ u. u ∷ []) (p .mark))) (le-leb 1 m (p .some)))
       (le-leb m 9 (p .few)))
       (true-every (λ k. digit (getD (take m (drop 2 block)) k 0)) m (λ k l. true-digit (getD (take m (drop 2 block)) k 0) (p .numeral k (omega (arith, s))))))
-      (le-leb (2 + m + d) (length block) (p .fits)))
-      (true-closed (drop (2 + m + d) block) (p .closes)))
+      (true-ends (2 + m + d) block (p .fits) (p .closes)))
 
 -- the test and the parts
 pub test-block : (block : List ℕ) → isBlock block ≡ true → Block block (bytesPlace block) (bytesCount block)

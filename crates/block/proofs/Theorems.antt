@@ -2,11 +2,11 @@
 -- written block is read again with the pattern, and a read block written again differs only where it may.
 use mathlib.Core.Bool.{true}
 use mathlib.Core.List.{List, [], _++_, append-nil}
-use mathlib.Core.Logic.{_⊎_, inl}
+use mathlib.Core.Logic.{inl}
 use mathlib.Core.Path.{_≡_, refl, sym, ap, _∙_}
 use Prim.Native.Nat.{ℕ, _+_, _≤_, _<_}
 use native.Mathlib.Omega.{arith}
-use lib.ListN.{length, replicate, length-append, length-replicate}
+use lib.ListN.{length, replicate, length-append}
 use Rattle.decimal.specs.Decimal.{codes, decimal, read}
 use Rattle.decimal.proofs.Decimal.{length-decimal, count-least, decimal-text, read-nine}
 use Rattle.decimal.proofs.Zeros.{digits-padded}

@@ -53,14 +53,12 @@ headed block =
     same (take 1 block) (codes "#") && leb 1 (digitsSaid block) && leb (digitsSaid block) 9
     && every (λ k. digit (getD (countDigits block) k 0)) (digitsSaid block)
 
--- Nothing, or one line feed.
-abbrev pub closed : List ℕ → Bool
-closed rest = same rest [] || same rest (codes "\n")
+-- At this place there is the end, or one line feed.
+abbrev pub endsAt : ℕ → List ℕ → Bool
+endsAt end block = leb end (length block) && (same (drop end block) [] || same (drop end block) (codes "\n"))
 
 unfoldable pub isBlock : List ℕ → Bool
-isBlock block =
-    let end = bytesPlace block + bytesCount block in
-    headed block && leb end (length block) && closed (drop end block)
+isBlock block = headed block && endsAt (bytesPlace block + bytesCount block) block
 
 -- The block that is written for a pattern of fewer than 1,000,000,000 bytes: the fewest digits, and no line feed.
 unfoldable pub blockOf : List ℕ → List ℕ

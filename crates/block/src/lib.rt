@@ -9,6 +9,7 @@ use refusals::MAX_PATTERN;
 use refusals::refused;
 use rows::write_bytes;
 ghost use mathlib.Core.Path.{_≡_};
+ghost use Rattle.block.specs.Block.{endsAt};
 ghost use Rattle.block.specs.Calls.{BlockRead, BlockWritten};
 ghost use Rattle.block.specs.Inner.{HeaderOf, Locates};
 
@@ -48,6 +49,23 @@ fn header_of(c: u8) -> Header
     }
 }
 
+// Whether the block ends at this place, or has one line feed there.
+fn ends_at(block: &[u8], end: usize) -> bool
+    ensures { λ r. ⌜ r ≡ endsAt end (now (block .entry)) ⌝ }
+{
+    if block.len() < end {
+        return false;
+    }
+    let behind = block.len() - end;
+    if behind == 0 {
+        return true;
+    }
+    if behind != 1 {
+        return false;
+    }
+    block[end] == b'\n'
+}
+
 // Where the bytes of a block are, however many they are.
 fn locate(block: &[u8]) -> Located
     ensures { λ r. ⌜ Locates (now (block .entry)) r ⌝ }
@@ -70,17 +88,8 @@ fn locate(block: &[u8]) -> Located
         return Located::Nowhere;
     }
     let count = value_of(&block[2..place]);
-    let end = place + count;
-    if size < end {
+    if !ends_at(block, place + count) {
         return Located::Nowhere;
-    }
-    if end + 1 < size {
-        return Located::Nowhere;
-    }
-    if end < size {
-        if block[end] != b'\n' {
-            return Located::Nowhere;
-        }
     }
     Located::Bytes(Span { place, count })
 }

@@ -1,9 +1,10 @@
 -- `block::locate` meets its contract: each test that fails says why there is no block, and where all pass there is one.
 use mathlib.Core.List.{[], _∷_}
 use mathlib.Core.Logic.{_⊎_, inl, inr, ⊎-elim}
-use mathlib.Core.Path.{_≡_, refl}
+use mathlib.Core.Path.{_≡_, refl, sym, _∙_}
 use Prim.Native.Nat.{ℕ, _<_}
 use native.Mathlib.Omega.{arith}
+use borrow.Author.Tests.{not-true, not-false}
 use denote.Enum.Declared.{tagOf}
 use types.Run.{OneOf}
 use Rattle.decimal.proofs.Decimal.{read-nine}
@@ -12,13 +13,14 @@ use Rattle.block.specs.declared.Header.{Header}
 use Rattle.block.specs.declared.Header.the-variants.{Definite, Indefinite, Other}
 use Rattle.block.proofs.Header.{the-type}
 use Rattle.block.proofs.Placed.{block-placed}
-use Rattle.block.proofs.Missing.{not-said, too-few, not-marked, field, length-field, cut-short, not-digits, all-digits, not-all, too-many, not-feed, ends-there, ends-in-feed}
+use Rattle.block.proofs.Missing.{not-said, too-few, not-marked, field, length-field, cut-short, not-digits, all-digits, not-ended, ended}
 use borrow.Author.Needs.{needs}
 use Rattle.block.proofs.locate.Statement.{statement}
 use Rattle.block.proofs.locate.Tie as tie
 use Rattle.block.proofs.locate.Reads as reads
 use Rattle.block.proofs.locate.Lts as lts
 use Rattle.block.proofs.header_of.Reads as header-of-reads
+use Rattle.block.proofs.ends_at.Reads as ends-at-reads
 use Rattle.decimal.proofs.leading_digits.Reads as leading-digits-reads
 use Rattle.decimal.proofs.value_of.Reads as value-of-reads
 
@@ -106,8 +108,8 @@ value-of-requires c κs =
     let header = rw (a .digits .given .1) at (a .before .before .header-of .ensures) in
     (omega (arith, header .2, length-field block n (header .0) (omega arith)), all-digits block n (header .0) (omega arith) (c .before .before .leading-digits .ensures) (omega arith))
 
-add-end : tie.Need-add-end
-add-end c =
+add-ends-at : tie.Need-add-ends-at
+add-ends-at c =
     let a = c .before .before .before .before .before .before .before in
     let block = a .before .before .before .before .before .before .before .before .args .block .now in
     let n = a .digits .given .0 .0 in
@@ -115,16 +117,16 @@ add-end c =
     let small = read-nine (field block n) (omega (arith, header .2, length-field block n (header .0) (omega arith))) (all-digits block n (header .0) (omega arith) (c .before .before .before .leading-digits .ensures) (omega arith)) in
     omega (arith, header .2, small, c .value-of .ensures)
 
+ends-at-requires : tie.Need-ends-at-requires
+ends-at-requires c κs = search needs
+
 returns-6 : tie.Need-returns-6
 returns-6 c =
-    let a = c .before .before .before .before .before .before .before .before in
+    let a = c .before .before .before .before .before .before .before .before .before in
     let block = a .before .before .before .before .before .before .before .before .args .block .now in
     let n = a .digits .given .0 .0 in
     let header = rw (a .digits .given .1) at (a .before .before .header-of .ensures) in
-    not-all block n (header .0) (c .before .value-of .ensures) (search needs)
-
-add-if6 : tie.Need-add-if6
-add-if6 c = search needs
+    not-ended block n (header .0) (c .before .before .value-of .ensures) (sym (c .before .ends-at .ensures) ∙ not-true _ (c .if5 .taken))
 
 returns-7 : tie.Need-returns-7
 returns-7 c =
@@ -132,38 +134,9 @@ returns-7 c =
     let block = a .before .before .before .before .before .before .before .before .args .block .now in
     let n = a .digits .given .0 .0 in
     let header = rw (a .digits .given .1) at (a .before .before .header-of .ensures) in
-    too-many block n (header .0) (c .before .before .value-of .ensures) (search needs)
-
-shared-slice-read-if8 : tie.Need-shared-slice-read-if8
-shared-slice-read-if8 c = search needs
-
-returns-8 : tie.Need-returns-8
-returns-8 c =
-    let a = c .before .before .before .before .before .before .before .before .before .before .before .before in
-    let block = a .before .before .before .before .before .before .before .before .args .block .now in
-    let n = a .digits .given .0 .0 in
-    let header = rw (a .digits .given .1) at (a .before .before .header-of .ensures) in
-    not-feed block n (header .0) (c .before .before .before .before .before .value-of .ensures) (omega arith) (c .if8 .taken)
-
-returns-9 : tie.Need-returns-9
-returns-9 c =
-    let a = c .before .before .before .before .before .before .before .before .before .before .before .before in
-    let block = a .before .before .before .before .before .before .before .before .args .block .now in
-    let n = a .digits .given .0 .0 in
-    let header = rw (a .digits .given .1) at (a .before .before .header-of .ensures) in
     let mark = a .before .before .before .before .if2 .left in
-    let numeral = all-digits block n (header .0) (omega arith) (c .before .before .before .before .before .before .before .before .leading-digits .ensures) (omega arith) in
-    ends-in-feed block n (header .0) (c .before .before .before .before .before .value-of .ensures) mark (header .1) (header .2) numeral (omega arith) (omega arith) (c .if8 .left)
-
-returns-10 : tie.Need-returns-10
-returns-10 c =
-    let a = c .before .before .before .before .before .before .before .before .before .before in
-    let block = a .before .before .before .before .before .before .before .before .args .block .now in
-    let n = a .digits .given .0 .0 in
-    let header = rw (a .digits .given .1) at (a .before .before .header-of .ensures) in
-    let mark = a .before .before .before .before .if2 .left in
-    let numeral = all-digits block n (header .0) (omega arith) (c .before .before .before .before .before .before .leading-digits .ensures) (omega arith) in
-    ends-there block n (header .0) (c .before .before .before .value-of .ensures) mark (header .1) (header .2) numeral (omega arith) (omega arith)
+    let numeral = all-digits block n (header .0) (omega arith) (c .before .before .before .before .before .leading-digits .ensures) (omega arith) in
+    ended block n (header .0) (c .before .before .value-of .ensures) mark (header .1) (header .2) numeral (sym (c .before .ends-at .ensures) ∙ not-false _ (c .if5 .left))
 
 pub locate-spec : {M : Type 1} → statement M
 locate-spec =
@@ -187,11 +160,7 @@ locate-spec =
     part-value-of-start
     part-value-of-end
     value-of-requires
-    add-end
+    add-ends-at
+    ends-at-requires
     returns-6
-    add-if6
-    returns-7
-    shared-slice-read-if8
-    returns-8
-    returns-9
-    returns-10)
+    returns-7)
