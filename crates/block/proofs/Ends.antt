@@ -47,11 +47,11 @@ module _ (end : ℕ) (block : List ℕ) where
     pub ends-there : length block - end ≡ 0 → true ≡ endsAt end block
     ends-there e = sym (true-ends end block h (inl (drop-of-length-le block {i = end} (omega arith))))
 
-    pub ends-later : (length block - end ≡ 0 → ⊥) → (length block - end ≡ 1 → ⊥) → false ≡ endsAt end block
-    ends-later f g =
+    pub ends-later : 1 < length block - end → false ≡ endsAt end block
+    ends-later f =
         let n = length-drop end block in
-        let first = false-same (drop end block) [] (λ e. f (omega (arith, ap length e))) in
-        let second = false-same (drop end block) (codes "\n") (λ e. g (omega (arith, ap length e))) in
+        let first = false-same (drop end block) [] (λ e. omega (arith, ap length e)) in
+        let second = false-same (drop end block) (codes "\n") (λ e. omega (arith, ap length e)) in
         rw (le-leb end (length block) h, first, second) refl
 
     pub ends-feed : length block - end ≡ 1 → eqb (getD block end 0) 10 ≡ endsAt end block

@@ -1,12 +1,14 @@
 -- The outcome of the calls on blocks by the first refusal that holds, and the length of a written block.
-use mathlib.Core.List.{List, _++_}
+use mathlib.Core.List.{List, [], _∷_, _++_}
 use mathlib.Core.Path.{_≡_, refl, sym, ap, _∙_}
 use Prim.Native.Nat.{ℕ, suc, _+_, _≤_, _<_}
 use native.Mathlib.Omega.{arith}
-use lib.ListN.{length, length-append}
+use lib.ListN.{length, set, length-append}
 use Rattle.decimal.specs.Decimal.{codes, decimal}
 use Rattle.decimal.proofs.Decimal.{length-decimal, count-least}
+use Rattle.rows.specs.Row.{writtenAt}
 use Rattle.rows.specs.Written.{Puts}
+use Rattle.rows.proofs.Written.{written-two}
 use Rattle.rows.proofs.Puts.{puts-then}
 use Rattle.refusals.proofs.First.{First, none, holds, passes, too-long, not-long, first-is}
 use Rattle.refusals.specs.Refusals.{firstOf, unlessRefused, maxPattern}
@@ -78,13 +80,19 @@ module _ (s : List ℕ) (h : length s ≤ maxPattern) where
         length-append (mark ++ digits) s,
       )
 
-  pub block-put : (d : List ℕ) {n : ℕ} {b₁ b₂ b₃ b₄ : List ℕ} {n₁ n₂ n₃ n₄ : ℕ} → length (blockOf s) ≤ length d → n ≡ length digits
-      → Puts (codes "#") 0 d b₁ n₁ → Puts (decimal n) n₁ b₁ b₂ n₂ → Puts digits n₂ b₂ b₃ n₃ → Puts s n₃ b₃ b₄ n₄ → Puts (blockOf s) 0 d b₄ n₄
+  -- the hash mark and the digit after it
+  mark-put : (d : List ℕ) {n : ℕ} → 2 ≤ length d → n ≡ length digits → Puts (codes "#" ++ decimal (length digits)) 0 d (set (set d 0 35) 1 (48 + n)) 2
+  mark-put d {n} k e =
+      let two : codes "#" ++ decimal (length digits) ≡ 35 ∷ (48 + n) ∷ [] = rw (decimal-one (length digits) (omega (arith, few-digits)), e) refl in
+      record { next = omega (arith, ap length two); leaves = written-two d 0 35 (48 + n) (omega arith) ∙ ap (λ u. writtenAt 0 u d) (sym two) }
+
+  pub block-put : (d : List ℕ) {n : ℕ} {b₁ b₂ : List ℕ} {n₁ n₂ : ℕ} → length (blockOf s) ≤ length d → n ≡ length digits
+      → Puts digits 2 (set (set d 0 35) 1 (48 + n)) b₁ n₁ → Puts s n₁ b₁ b₂ n₂ → Puts (blockOf s) 0 d b₂ n₂
   unfolding blockOf
-  block-put d k e p₁ p₂ p₃ p₄ =
+  block-put d k e p q =
       let mark = codes "#" ++ decimal (length digits) in
       let m₂ = length-append (codes "#") (decimal (length digits)) in
       let m₃ = length-append mark digits in
       let m = length-block in
       let one = one-digit in
-      puts-then (puts-then (puts-then p₁ (rw e at p₂) (omega arith)) p₃ (omega arith)) p₄ (omega arith)
+      puts-then (puts-then (mark-put d (omega arith) e) p (omega arith)) q (omega arith)

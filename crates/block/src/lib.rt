@@ -13,8 +13,6 @@ ghost use Rattle.block.specs.Block.{endsAt};
 ghost use Rattle.block.specs.Calls.{BlockRead, BlockWritten};
 ghost use Rattle.block.specs.Inner.{HeaderOf, Locates};
 
-const MARK: [u8; 1] = *b"#";
-
 // The answer about a block: the place of its bytes within it, and their count.
 pub struct Extent {
     pub refusal: u8,
@@ -60,7 +58,7 @@ fn ends_at(block: &[u8], end: usize) -> bool
     if behind == 0 {
         return true;
     }
-    if behind != 1 {
+    if 1 < behind {
         return false;
     }
     block[end] == b'\n'
@@ -134,9 +132,9 @@ pub fn write_block(pattern: &[u8], bytes: &mut [u8]) -> Filled
     if bytes.len() < 2 + digits + size {
         return refused(8);
     }
-    let second = write_bytes(&MARK, bytes, 0);
-    let third = write_decimal(digits, bytes, second);
-    let place = write_decimal(size, bytes, third);
+    bytes[0] = b'#';
+    bytes[1] = b'0' + digits as u8;
+    let place = write_decimal(size, bytes, 2);
     Filled {
         refusal: 0,
         count: write_bytes(pattern, bytes, place),

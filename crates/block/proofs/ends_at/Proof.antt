@@ -23,7 +23,7 @@ returns-2 c =
 returns-3 : tie.Need-returns-3
 returns-3 c =
     let a = c .before .before .before .args in
-    ends-later (a .end) (a .block .now) (omega arith) (c .before .if2 .left) (c .if3 .taken)
+    ends-later (a .end) (a .block .now) (omega arith) (omega arith)
 
 shared-slice-read-result : tie.Need-shared-slice-read-result
 shared-slice-read-result c = search needs

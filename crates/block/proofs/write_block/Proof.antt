@@ -1,11 +1,12 @@
 -- `block::write_block` meets its contract: the parts of the block stand one behind the other.
-use mathlib.Core.Path.{refl}
+use mathlib.Core.Path.{_≡_, refl}
+use Prim.Native.Nat.{_+_}
 use native.Mathlib.Omega.{arith}
-use lib.ListN.{length}
+use lib.ListN.{length, set, length-set}
 use Rattle.refusals.proofs.First.{none, too-long, not-long, too-short, not-short}
 use Rattle.refusals.proofs.Outcome.{fills-refused, fills-accepted}
 use Rattle.block.specs.Block.{blockOf}
-use Rattle.block.proofs.Outcome.{few-digits, one-digit, length-block, block-put}
+use Rattle.block.proofs.Outcome.{few-digits, length-block, block-put}
 use borrow.Author.Needs.{needs}
 use Rattle.block.proofs.write_block.Statement.{statement}
 use Rattle.block.proofs.write_block.Tie as tie
@@ -46,46 +47,45 @@ returns-2 c =
     let s = a .pattern .now in
     fills-refused (not-long s (search needs) (too-short (length (blockOf s)) (length (a .bytes .now)) (omega (arith, length-block s (search needs))))) (c .refused2 .ensures)
 
-slice-aggregate-write-bytes : tie.Need-slice-aggregate-write-bytes
-slice-aggregate-write-bytes c = search needs
+slice-write-bytes : tie.Need-slice-write-bytes
+slice-write-bytes c = search needs
 
-write-bytes-requires : tie.Need-write-bytes-requires
-write-bytes-requires c κs = search needs
+cast-bytes : tie.Need-cast-bytes
+cast-bytes c =
+    let s = c .before .before .before .before .before .args .pattern .now in
+    omega (arith, few-digits s (omega arith), c .before .digit-count .ensures)
+
+add-bytes : tie.Need-add-bytes
+add-bytes c =
+    let s = c .before .before .before .before .before .args .pattern .now in
+    omega (arith, few-digits s (omega arith), c .before .digit-count .ensures)
+
+slice-write-bytes-2 : tie.Need-slice-write-bytes-2
+slice-write-bytes-2 c = simp length-set (omega arith)
 
 write-decimal-requires : tie.Need-write-decimal-requires
-write-decimal-requires c κs =
-    let s = c .before .before .before .before .before .before .before .before .before .before .before .args .pattern .now in
-    let e = c .before .before .before .before .before .before .before .digit-count .ensures in
-    omega (arith, rw (← e) at (one-digit s (omega arith)), e)
+write-decimal-requires c κs = simp length-set (omega (arith, c .before .before .digit-count .ensures))
 
-write-decimal-requires-2 : tie.Need-write-decimal-requires-2
-write-decimal-requires-2 c κs =
-    let s = c .before .before .before .before .before .before .before .before .before .before .before .before .before .before .before .args .pattern .now in
-    let e = c .before .before .before .before .before .before .before .before .before .before .before .digit-count .ensures in
-    omega (arith, rw (← e) at (one-digit s (omega arith)), e)
-
-write-bytes-requires-2 : tie.Need-write-bytes-requires-2
-write-bytes-requires-2 c κs =
-    let s = c .before .before .before .before .before .before .before .before .before .before .before .before .before .before .before .before .before .before .before .args .pattern .now in
-    let e = c .before .before .before .before .before .before .before .before .before .before .before .before .before .before .before .digit-count .ensures in
-    omega (arith, rw (← e) at (one-digit s (omega arith)), e)
+write-bytes-requires : tie.Need-write-bytes-requires
+write-bytes-requires c κs =
+    let b = c .before .before .before .before .before .before .before .before .before .before .args .bytes .now in
+    let long : length (set (set b 0 35) 1 (48 + c .before .before .before .before .before .before .digit-count .result)) ≡ length b = simp length-set in
+    omega (arith, long, c .before .before .before .before .before .before .digit-count .ensures)
 
 same-length : tie.Need-same-length
-same-length c = search needs
+same-length c =
+    let b = c .before .before .before .before .before .before .before .before .before .before .before .before .before .args .bytes .now in
+    let long : length (set (set b 0 35) 1 (48 + c .before .before .before .before .before .before .before .before .before .digit-count .result)) ≡ length b = simp length-set in
+    omega (arith, long)
 
 returns-3 : tie.Need-returns-3
 returns-3 c =
-    let a = c .before .before .before .before .before .before .before .before .before .before .before .before .before .before .before .before .before .before .before .before .before .before .args in
+    let a = c .before .before .before .before .before .before .before .before .before .before .before .before .before .args in
     let s = a .pattern .now in
-    let last = c .before .before in
-    let count = last .before .before .before .before in
-    let said = count .before .before .before .before in
-    let first = said .before .before .before .before in
-    let digits = first .before .before .before .before in
     let h = length-block s (omega arith) in
     let puts =
-    block-put s (omega arith) (a .bytes .now) (omega arith) (digits .digit-count .ensures)
-    (first .write-bytes .ensures) (said .write-decimal .ensures) (count .write-decimal2 .ensures) (last .write-bytes2 .ensures) in
+    block-put s (omega arith) (a .bytes .now) (omega arith) (c .before .before .before .before .before .before .before .before .before .digit-count .ensures)
+    (c .before .before .before .before .before .before .write-decimal .ensures) (c .before .before .write-bytes .ensures) in
     let fits = not-long s (omega arith) (not-short (length (blockOf s)) (length (a .bytes .now)) (omega arith) none) in
     fills-accepted fits refl (omega (arith, puts .next)) (puts .leaves)
 
@@ -100,10 +100,11 @@ write-block-spec =
     add-if2-2
     refused-requires-2
     returns-2
-    slice-aggregate-write-bytes
-    write-bytes-requires
+    slice-write-bytes
+    cast-bytes
+    add-bytes
+    slice-write-bytes-2
     write-decimal-requires
-    write-decimal-requires-2
-    write-bytes-requires-2
+    write-bytes-requires
     same-length
     returns-3)
