@@ -29,20 +29,23 @@ extern "C" {
 #define LYNDON_MAX_BLOCK 256
 #define LYNDON_MAX_TREE 256
 
-/* Rows of these lengths are enough for every pattern and every edit: the bytes of a listing, the middle groups of an edit. */
+/* Rows of these lengths are enough for every pattern and every edit: the bytes of a listing and of a definite length block, the middle
+ * groups of an edit. */
 #define LYNDON_MAX_LISTING 77849
+#define LYNDON_MAX_DEFINITE_BLOCK 4102
 #define LYNDON_MAX_MIDDLE 270
 
-/* The refusals. Of two that apply, the smaller number is answered. */
+/* The refusals. Of two that apply, the smaller number is answered, but 9 before all others. */
 #define LYNDON_ACCEPTED 0
 #define LYNDON_PATTERN_TOO_LONG 1   /* over LYNDON_MAX_PATTERN bytes */
 #define LYNDON_PAST_END 2           /* a position past the end of the pattern, whose length itself is a position; or `from` > `to` */
-#define LYNDON_BLOCK_TOO_LONG 3     /* over LYNDON_MAX_BLOCK bytes */
+#define LYNDON_BLOCK_TOO_LONG 3     /* the block of an edit has over LYNDON_MAX_BLOCK bytes */
 #define LYNDON_EDITED_TOO_LONG 4    /* the edited pattern has over LYNDON_MAX_PATTERN bytes */
 #define LYNDON_NOT_THE_TABLE 5      /* a lent table is shorter than the pattern, or one of its first pattern_len entries is not the pattern's */
 #define LYNDON_WORD_TOO_LONG 6      /* over LYNDON_MAX_TREE bytes */
 #define LYNDON_NOT_LYNDON 7         /* the string is no Lyndon word */
 #define LYNDON_ROW_TOO_SHORT 8      /* the result has more entries than the row */
+#define LYNDON_NOT_A_BLOCK 9        /* the bytes are no definite length block */
 
 /* The groups of equal neighbouring factors: start, length of one factor, power. Sets *count to the number of groups.
  * Row: 3 entries a group; 3 * pattern_len are always enough. Refusals 1, 8. */
@@ -88,6 +91,17 @@ uint8_t lyndon_factor_suffix(const uint8_t *pattern, size_t pattern_len, const u
  * hexadecimal; carriage return and line feed close each line, and no zero byte is added. Sets *count to the number of bytes.
  * Row: a byte for each of the listing's; LYNDON_MAX_LISTING are always enough. Refusals 1, 8. */
 uint8_t lyndon_write_listing(const uint8_t *pattern, size_t pattern_len, uint8_t *text, size_t text_len, size_t *count);
+
+/* Where the bytes of a definite length block of IEEE 488.2 are: sets *place to the place of the first within the block and *count to their
+ * number. The block is `#`, a digit 1 to 9 that says how many digits follow, those digits, leading zeros allowed, which give the number of
+ * bytes, exactly that many bytes, at most one line feed, and nothing else; the indefinite form `#0` is none. Refusals 9, 1: a block that
+ * holds over LYNDON_MAX_PATTERN bytes is refused by 1, and what only says that it does, by 9. */
+uint8_t lyndon_read_block(const uint8_t *bytes, size_t bytes_len, size_t *place, size_t *count);
+
+/* The pattern as such a block, with the fewest digits and no line feed; `#10` where it is empty. Sets *count to the number of bytes.
+ * Row: 2 + (decimal digits of pattern_len) + pattern_len bytes, 0 having one digit; LYNDON_MAX_DEFINITE_BLOCK are always enough.
+ * Refusals 1, 8. */
+uint8_t lyndon_write_block(const uint8_t *pattern, size_t pattern_len, uint8_t *bytes, size_t bytes_len, size_t *count);
 
 /* A group in a row of records: start, length of one factor, power. */
 typedef struct lyndon_group {
