@@ -1,4 +1,5 @@
 //! Compares the calls on one pattern with what is right, each with rows too short, exact and longer.
+use crate::block_oracle;
 use crate::engine::{self, Answer, Group};
 use crate::lent::{Entry, Lent, lengths};
 use crate::right::{Facts, Holds, Right, flat, part_holds, pattern_holds, tree_holds};
@@ -38,6 +39,12 @@ fn rows<T: Entry + Debug>(t: &mut Tally, name: &str, w: &[u8], want: Want<T>, ca
     }
 }
 
+/// The pattern as a definite length block.
+pub fn write_block(t: &mut Tally, w: &[u8]) {
+    let block = block_oracle::written(w);
+    rows(t, "write_block", w, Want::new(pattern_holds(w.len()), [block.len(), 0], &block), engine::write_block);
+}
+
 /// The calls that write a row and need no table. The trigger word of a pattern too long is empty and has no number.
 fn writing(t: &mut Tally, w: &[u8], f: &Facts) {
     let n = w.len();
@@ -50,6 +57,7 @@ fn writing(t: &mut Tally, w: &[u8], f: &Facts) {
     let word = if holds.none() { &w[first..first + f.length] } else { &[] };
     rows(t, "longest_word", w, Want::new(Holds::default(), [word.len(), 0], word), engine::longest_word);
     rows(t, "write_listing", w, Want::new(holds, [f.listing.len(), 0], &f.listing), engine::write_listing);
+    write_block(t, w);
     rows(t, "tree", w, Want::new(tree_holds(n, f.lyndon), [f.nodes.len() / 2, 0], &f.nodes), engine::tree);
 }
 

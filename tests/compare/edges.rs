@@ -1,4 +1,5 @@
 //! Where each refusal begins, with the number written out.
+use crate::block_oracle;
 use crate::calls::{self, Side};
 use crate::edits;
 use crate::engine::{self, Given, Group};
@@ -47,6 +48,8 @@ fn pattern(t: &mut Tally, w: &[u8], f: &Facts, want: u8) {
     says(t, "last_factors", n, engine::last_factors(w, &mut row()).0, want);
     says(t, "longest_words", n, engine::longest_words(w, &mut row()).0, want);
     says(t, "write_listing", n, engine::write_listing(w, &mut text()).0, want);
+    says(t, "write_block", n, engine::write_block(w, &mut text()).0, want);
+    says(t, "read_block", n, engine::read_block(&block_oracle::written(w)).0, want);
     says(t, "is_lyndon", n, engine::is_lyndon(w).0, want);
     says(t, "least_rotation", n, engine::least_rotation(w).0, want);
     says(t, "factor_prefix", n, engine::factor_prefix(w, &f.last, 3, &mut row()).0, want);
@@ -158,6 +161,7 @@ fn rows(t: &mut Tally) {
     say("longest_words", 1, &|row| engine::longest_words(w, row).0);
     say("longest_word", 4, &|row| engine::longest_word(w, &mut vec![0; row.len()]).0);
     say("write_listing", 69, &|row| engine::write_listing(w, &mut vec![0; row.len()]).0);
+    say("write_block", 17, &|row| engine::write_block(w, &mut vec![0; row.len()]).0);
     say("tree", 18, &|row| engine::tree(b"aabab", row).0);
     say("factor_prefix", 6, &|row| engine::factor_prefix(w, &f.last, 9, row).0);
     say("factor_suffix", 3, &|row| engine::factor_suffix(w, &f.array, 9, row).0);

@@ -60,6 +60,8 @@ unsafe extern "C" {
     fn lyndon_factor_suffix(pattern: *const u8, pattern_len: usize, table: *const u16, table_len: usize,
                             groups: *mut u16, groups_len: usize, start: usize, count: *mut usize) -> u8;
     fn lyndon_write_listing(pattern: *const u8, pattern_len: usize, text: *mut u8, text_len: usize, count: *mut usize) -> u8;
+    fn lyndon_read_block(bytes: *const u8, bytes_len: usize, place: *mut usize, count: *mut usize) -> u8;
+    fn lyndon_write_block(pattern: *const u8, pattern_len: usize, bytes: *mut u8, bytes_len: usize, count: *mut usize) -> u8;
     fn lyndon_edit(pattern: *const u8, pattern_len: usize, array: *const u16, array_len: usize, last: *const u16, last_len: usize,
                    from: usize, to: usize, block: *const u8, block_len: usize,
                    middle: *mut Group, middle_len: usize, starts: *mut u16, starts_len: usize) -> EditAnswer;
@@ -115,6 +117,17 @@ pub fn least_rotation(pattern: &[u8]) -> Answer {
 
 pub fn write_listing(pattern: &[u8], text: &mut [u8]) -> Answer {
     fill(lyndon_write_listing, pattern, text)
+}
+
+/// Place, then count.
+pub fn read_block(bytes: &[u8]) -> Answer {
+    let (mut place, mut count) = (UNSET, UNSET);
+    let refusal = unsafe { lyndon_read_block(bytes.as_ptr(), bytes.len(), &mut place, &mut count) };
+    (refusal, [place, count])
+}
+
+pub fn write_block(pattern: &[u8], bytes: &mut [u8]) -> Answer {
+    fill(lyndon_write_block, pattern, bytes)
 }
 
 pub fn tree(word: &[u8], nodes: &mut [u16]) -> Answer {

@@ -1,5 +1,7 @@
 //! Compares every function of the two archives with a program written from the definitions alone, and prints what it ran.
 //! The first argument is the seed of the random words. A failed case is printed; the last line counts the parts.
+mod block_oracle;
+mod blocks;
 mod calls;
 mod edges;
 mod edits;
@@ -53,5 +55,9 @@ fn main() -> ExitCode {
     run.part("tables with one entry changed or missing, three letters to length 4", |t| tables::wrong(t, THREE, 4));
     run.part("the edge of each refusal", |t| edges::all(t, r));
     run.part("two and more refusals at once", |t| orders::all(t, r));
+    run.part("definite length blocks: every string over seven letters to length 5, to 6 behind a hash mark", blocks::short);
+    run.part("definite length blocks with every header, cut at every place and damaged", |t| blocks::headers(t, r));
+    run.part("random definite length blocks, whole, cut and damaged", |t| blocks::random(t, r, 4_000));
+    run.part("patterns of every length written as blocks and read again", |t| blocks::lengths(t, r));
     if run.finish() { ExitCode::SUCCESS } else { ExitCode::FAILURE }
 }

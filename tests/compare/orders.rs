@@ -1,4 +1,7 @@
-//! Two and more refusals at once: the first in number order is answered. Every pair that can hold of a call must have been met alone.
+//! Two and more refusals at once: the first in number order is answered, but 9 before 1. Every pair that can hold of a call must have been
+//! met alone.
+use crate::block_oracle::{read_holds, written};
+use crate::blocks;
 use crate::calls::{self, Side, Want};
 use crate::edits;
 use crate::engine::{self, Answer, Given};
@@ -58,6 +61,20 @@ fn plain(t: &mut Tally, w: &[u8], f: &Facts) {
     }
     let want = Want { holds, numbers: [f.listing.len(), 0], result: &f.listing[..] };
     plain_rows(t, "write_listing", w, &want, engine::write_listing);
+    let block = written(w);
+    let want = Want { holds, numbers: [block.len(), 0], result: &block[..] };
+    plain_rows(t, "write_block", w, &want, engine::write_block);
+}
+
+/// Blocks that say too many bytes: as they are, and with a byte too few or too many, which are none.
+fn blocks_read(t: &mut Tally, w: &[u8]) {
+    let mut met = Met::new();
+    let block = written(w);
+    for bytes in [&block[..], &block[..block.len() - 1], &block[..7], &[&block[..], b"\r\n"].concat()] {
+        met.insert(read_holds(bytes));
+        blocks::read(t, bytes);
+    }
+    every_pair(t, "read_block", &met, &[9, 1]);
 }
 
 /// Where there is no tree a row with no entry counts as too short.
@@ -133,6 +150,7 @@ pub fn all(t: &mut Tally, r: &mut Random) {
     let long = r.letters(&[A, B], 4097);
     let words = [&long[..4096], &long[..]].map(|w| (w, (FAST.facts)(w)));
     plain(t, words[1].0, &words[1].1);
+    blocks_read(t, words[1].0);
     tree(t);
     for side in [Side::Prefix, Side::Suffix] {
         let mut met = Met::new();

@@ -55,9 +55,9 @@ impl Holds {
         self.0 == 0
     }
 
-    /// The first in number order, or 0.
+    /// The first that is tested, or 0: 9 before the others, which go in number order.
     pub fn first(self) -> u8 {
-        (1..=8).find(|n| self.0 >> n & 1 == 1).unwrap_or(0)
+        [9, 1, 2, 3, 4, 5, 6, 7, 8].into_iter().find(|n| self.0 >> n & 1 == 1).unwrap_or(0)
     }
 }
 
