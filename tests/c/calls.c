@@ -4,12 +4,12 @@
 
 #define UNSET ((size_t)0xDEADBEEF)
 
-const char *const filling_name[FILLINGS] = { "lyndon_factor",       "lyndon_array", "lyndon_last_factors", "lyndon_longest_words",
-                                             "lyndon_longest_word", "lyndon_tree",  "lyndon_write_listing" };
+const char *const filling_name[FILLINGS] = { "lyndon_factor",       "lyndon_array", "lyndon_last_factors",  "lyndon_longest_words",
+                                             "lyndon_longest_word", "lyndon_tree",  "lyndon_write_listing", "lyndon_write_block" };
 const char *const side_name[2] = { "lyndon_factor_prefix", "lyndon_factor_suffix" };
 
 static size_t width(filling call) {
-    return call == LONGEST_WORD || call == LISTING ? sizeof(uint8_t) : sizeof(uint16_t);
+    return call == LONGEST_WORD || call == LISTING || call == BLOCK ? sizeof(uint8_t) : sizeof(uint16_t);
 }
 
 static told fill(filling call, bytes w, uint8_t *row, size_t room) {
@@ -28,6 +28,7 @@ static told fill(filling call, bytes w, uint8_t *row, size_t room) {
     case LONGEST_WORD: t.refusal = lyndon_longest_word(w.at, w.n, row, room, count); break;
     case TREE: t.refusal = lyndon_tree(w.at, w.n, numbers, room, count); break;
     case LISTING: t.refusal = lyndon_write_listing(w.at, w.n, row, room, count); break;
+    case BLOCK: t.refusal = lyndon_write_block(w.at, w.n, row, room, count); break;
     default: break;
     }
     return t;
@@ -64,6 +65,13 @@ bool tells_rotation(bytes w, uint8_t refusal, size_t start) {
     size_t got = UNSET;
     uint8_t number = lyndon_least_rotation(pattern.row, w.n, &got);
     return unchanged(pattern, w.at) && number == refusal && got == start;
+}
+
+bool reads_block(bytes block, told want) {
+    lent l = lend_copy(block.at, block.n);
+    told got = { 0xEE, { UNSET, UNSET } };
+    got.refusal = lyndon_read_block(l.row, block.n, &got.number[0], &got.number[1]);
+    return unchanged(l, block.at) && equal(got, want);
 }
 
 bool takes_part(side s, bytes w, table t, size_t position, size_t room, told want, result r) {

@@ -8,7 +8,7 @@
 #include "lyndon.h"
 
 /* The functions that write one row, by one list of arguments. */
-typedef enum { FACTOR, ARRAY, LAST_FACTORS, LONGEST_WORDS, LONGEST_WORD, TREE, LISTING, FILLINGS } filling;
+typedef enum { FACTOR, ARRAY, LAST_FACTORS, LONGEST_WORDS, LONGEST_WORD, TREE, LISTING, BLOCK, FILLINGS } filling;
 
 /* The functions that ask for a table and a position. */
 typedef enum { PREFIX, SUFFIX } side;
@@ -64,6 +64,9 @@ bool fills_any_row(filling call, bytes w, told want, result r);
 
 bool tells_lyndon(bytes w, uint8_t refusal, bool yes);
 bool tells_rotation(bytes w, uint8_t refusal, size_t start);
+
+/* The numbers are the place and the count of the bytes within the block. */
+bool reads_block(bytes block, told want);
 
 bool takes_part(side s, bytes w, table t, size_t position, size_t room, told want, result r);
 

@@ -29,6 +29,7 @@ static void one_row(void) {
         { LONGEST_WORD, PATTERN, { 0, { 4, 0 } }, { "abac", 4 } },
         { TREE, LITERAL("aabab"), { 0, { 9, 0 } }, { nodes, 18 } },
         { LISTING, PATTERN, { 0, { sizeof LISTING_TEXT - 1, 0 } }, { LISTING_TEXT, sizeof LISTING_TEXT - 1 } },
+        { BLOCK, PATTERN, { 0, { 17, 0 } }, { "#213acbabcabcabac", 17 } },
         { FACTOR, LITERAL(""), { 0, { 0, 0 } }, NOTHING },
         { ARRAY, LITERAL(""), { 0, { 0, 0 } }, NOTHING },
         { LAST_FACTORS, LITERAL(""), { 0, { 0, 0 } }, NOTHING },
@@ -36,6 +37,8 @@ static void one_row(void) {
         { LONGEST_WORD, LITERAL(""), { 0, { 0, 0 } }, NOTHING },
         { LISTING, LITERAL(""), { 0, { 25, 0 } }, { "start,length,power,word\r\n", 25 } },
         { LISTING, LITERAL("\xFF\x0A"), { 0, { 45, 0 } }, { "start,length,power,word\r\n0,1,1,FF\r\n1,1,1,0A\r\n", 45 } },
+        { BLOCK, LITERAL(""), { 0, { 3, 0 } }, { "#10", 3 } },
+        { BLOCK, LITERAL("\xFF\x0A"), { 0, { 5, 0 } }, { "#12\xFF\x0A", 5 } },
     };
     for (size_t k = 0; k < sizeof cases / sizeof *cases; k++) {
         bool good = fills_any_row(cases[k].call, cases[k].w, cases[k].want, cases[k].r);
@@ -52,6 +55,25 @@ static void no_row(void) {
     check(tells_rotation(PATTERN, 0, 9), "lyndon_least_rotation of the pattern");
     check(tells_rotation(LITERAL("baab"), 0, 1), "lyndon_least_rotation of baab");
     check(tells_rotation(LITERAL(""), 0, 0), "lyndon_least_rotation of the empty pattern");
+}
+
+static void blocks(void) {
+    const struct {
+        bytes block;
+        size_t place, count;
+    } cases[] = {
+        { LITERAL("#213acbabcabcabac"), 4, 13 },
+        { LITERAL("#213acbabcabcabac\n"), 4, 13 },
+        { LITERAL("#9000000013acbabcabcabac\n"), 11, 13 },
+        { LITERAL("#10"), 3, 0 },
+        { LITERAL("#3000\n"), 5, 0 },
+        { LITERAL("#11\n"), 3, 1 },
+        { LITERAL("#11\n\n"), 3, 1 },
+        { LITERAL("#12\r\n"), 3, 2 },
+    };
+    for (size_t k = 0; k < sizeof cases / sizeof *cases; k++) {
+        check(reads_block(cases[k].block, (told){ 0, { cases[k].place, cases[k].count } }), "lyndon_read_block, case %zu", k);
+    }
 }
 
 /* Exact, longer, short by one, empty. */
@@ -109,6 +131,7 @@ void test_example(void) {
     part("the worked example, rows exact, longer and too short");
     one_row();
     no_row();
+    blocks();
     parts();
     edits();
 }

@@ -53,6 +53,20 @@ static void equal_letters(void) {
     check(edits_numbers(&g, 3, N, &want), "lyndon_edit_numbers of 4096");
 }
 
+/* A block of the longest pattern fits the row that always is enough, and is read again; so is one with all nine digits. */
+static void longest_block(void) {
+    static uint8_t block[LYNDON_MAX_DEFINITE_BLOCK + 5];
+    memset(block, '\n', sizeof block);
+    memcpy(block, "#44096", 6);
+    bytes w = { block + 6, N };
+    told want = { 0, { LYNDON_MAX_DEFINITE_BLOCK, 0 } };
+    check(fills_any_row(BLOCK, w, want, (result){ block, LYNDON_MAX_DEFINITE_BLOCK }), "lyndon_write_block of 4096");
+    check(reads_block((bytes){ block, LYNDON_MAX_DEFINITE_BLOCK }, (told){ 0, { 6, N } }), "lyndon_read_block of 4096");
+    check(reads_block((bytes){ block, LYNDON_MAX_DEFINITE_BLOCK + 1 }, (told){ 0, { 6, N } }), "lyndon_read_block of 4096, a line feed");
+    memcpy(block, "#9000004096", 11);
+    check(reads_block((bytes){ block, sizeof block }, (told){ 0, { 11, N } }), "lyndon_read_block of 4096, nine digits");
+}
+
 /* a .. ab is a Lyndon word; its tree goes down at the right: node 2k holds the letters from k on, each but the last after a leaf. */
 static void longest_tree(void) {
     enum { SIZE = LYNDON_MAX_TREE };
@@ -125,4 +139,5 @@ void test_limits(void) {
     longest_tree();
     most_groups();
     longest_listings();
+    longest_block();
 }

@@ -12,5 +12,6 @@ int main(int argc, char **argv) {
     test_limits();
     test_words();
     test_edits();
+    test_blocks();
     return finish();
 }

@@ -129,6 +129,31 @@ size_t naive_listing(bytes w, const facts *f, char *text) {
     return (size_t)(at - text);
 }
 
+/* The header of a block that fills all bytes but for a line feed, or all of them, is printed for each number of digits and compared. */
+bool naive_extent(bytes block, size_t *place, size_t *count) {
+    for (size_t digits = 1; digits <= 9; digits++) {
+        for (size_t close = 0; close <= 1; close++) {
+            char header[SHORT];
+            if (block.n < 2 + digits + close) continue;
+            *place = 2 + digits;
+            *count = block.n - *place - close;
+            int length = sprintf(header, "#%zu%0*zu", digits, (int)digits, *count);
+            bool closed = close == 0 || block.at[block.n - 1] == '\n';
+            if (closed && (size_t)length == *place && memcmp(header, block.at, *place) == 0) return true;
+        }
+    }
+    return false;
+}
+
+size_t naive_block(bytes w, uint8_t *block) {
+    char count[SHORT], header[2 * SHORT];
+    int digits = sprintf(count, "%zu", w.n);
+    int length = sprintf(header, "#%d%s", digits, count);
+    memcpy(block, header, (size_t)length);
+    memcpy(block + length, w.at, w.n);
+    return (size_t)length + w.n;
+}
+
 /* The largest c for which the first c factors of the stored pattern end at or before `from` and are the edited one's first c. */
 static size_t kept_of(bytes w, const size_t *old, size_t olds, bytes edited, const size_t *new, size_t news, size_t from) {
     size_t c = 0;

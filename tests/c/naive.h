@@ -33,6 +33,12 @@ size_t naive_groups(bytes w, size_t place, uint16_t *group);
 /* Writes the listing of a pattern with these groups, and answers its length; a line of it has at most 2 * SHORT + 20 bytes. */
 size_t naive_listing(bytes w, const facts *f, char *text);
 
+/* Whether the bytes, of any number, are a definite length block; the place and count of the bytes within it. */
+bool naive_extent(bytes block, size_t *place, size_t *count);
+
+/* Writes the block of a pattern, of any length, and answers its length. */
+size_t naive_block(bytes w, uint8_t *block);
+
 /* The answer to an edit that nothing refuses, and its rows. */
 typedef struct {
     lyndon_edit_answer told;

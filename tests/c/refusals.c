@@ -22,9 +22,9 @@ static void prepare(void) {
 }
 
 static void no_table(void) {
-    static const filling calls[] = { FACTOR, ARRAY, LAST_FACTORS, LONGEST_WORDS, LISTING };
-    static const size_t need[] = { 3, 2, 2, 2, 35 }; /* entries that the results for aa have */
-    for (size_t k = 0; k < 5; k++) {
+    static const filling calls[] = { FACTOR, ARRAY, LAST_FACTORS, LONGEST_WORDS, LISTING, BLOCK };
+    static const size_t need[] = { 3, 2, 2, 2, 35, 5 }; /* entries that the results for aa have */
+    for (size_t k = 0; k < sizeof calls / sizeof *calls; k++) {
         const char *name = filling_name[calls[k]];
         check(fills(calls[k], equal_letters(LONG), PLENTY, REFUSED(1), NOTHING), "%s, 1", name);
         check(fills(calls[k], equal_letters(LONG), 0, REFUSED(1), NOTHING), "%s, 1 before 8", name);
@@ -35,6 +35,29 @@ static void no_table(void) {
     check(fills(LONGEST_WORD, equal_letters(2), 0, REFUSED(8), NOTHING), "lyndon_longest_word, 8");
     check(tells_lyndon(equal_letters(LONG), 1, false), "lyndon_is_lyndon, 1");
     check(tells_rotation(equal_letters(LONG), 1, 0), "lyndon_least_rotation, 1");
+}
+
+static void not_blocks(void) {
+    const bytes cases[] = {
+        LITERAL(""),       LITERAL("#"),     LITERAL("#1"),        LITERAL("#11"),     LITERAL("#11ab"),       LITERAL("#11a\n\n"),
+        LITERAL("#11a\r"), LITERAL("#10a"),  LITERAL(" #10"),      LITERAL("$10"),     LITERAL("#2 1a"),       LITERAL("#2+1a"),
+        LITERAL("#2/1a"),  LITERAL("#2:1a"), LITERAL("#11a\r\n"),  LITERAL("#0"),      LITERAL("#0a\n"),       LITERAL("#00"),
+        LITERAL("#:"),     LITERAL("#/"),    LITERAL("#\xB1\xB0"), LITERAL("#565536"), LITERAL("#9999999999"),
+    };
+    for (size_t k = 0; k < sizeof cases / sizeof *cases; k++) check(reads_block(cases[k], REFUSED(9)), "lyndon_read_block, 9, case %zu", k);
+}
+
+/* A block of 4,097 bytes is refused by 1; with a byte too few, and with one too many, it is none. */
+static void long_blocks(void) {
+    uint8_t block[6 + LONG + 1];
+    memset(block, 'a', sizeof block);
+    memcpy(block, "#44097", 6);
+    check(reads_block((bytes){ block, 6 + LONG }, REFUSED(1)), "lyndon_read_block, 1");
+    check(reads_block((bytes){ block, 6 + LONG - 1 }, REFUSED(9)), "lyndon_read_block, 9 before 1, a byte too few");
+    check(reads_block((bytes){ block, 6 + LONG + 1 }, REFUSED(9)), "lyndon_read_block, 9 before 1, a byte too many");
+    check(reads_block((bytes){ block, 6 }, REFUSED(9)), "lyndon_read_block, 9 before 1, no bytes");
+    block[6 + LONG] = '\n';
+    check(reads_block((bytes){ block, 6 + LONG + 1 }, REFUSED(1)), "lyndon_read_block, 1, a line feed");
 }
 
 static void tree(void) {
@@ -138,6 +161,8 @@ void test_refusals(void) {
     prepare();
     part("each refusal of each function, alone and with later ones");
     no_table();
+    not_blocks();
+    long_blocks();
     tree();
     parts();
     refused_edits();

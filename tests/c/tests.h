@@ -9,6 +9,7 @@ void test_example(void);
 void test_refusals(void);
 void test_limits(void);
 void test_words(void);
+void test_blocks(void);
 void test_edits(void);
 
 #endif
