@@ -14,10 +14,10 @@
 
 /* What a run is given and where its results go; static, so that only the call is on the stack. */
 static struct {
-    uint8_t pattern[N], block[LYNDON_MAX_BLOCK], text[LYNDON_MAX_LISTING];
+    uint8_t pattern[N], block[LYNDON_MAX_BLOCK], text[LYNDON_MAX_LISTING], definite[LYNDON_MAX_DEFINITE_BLOCK];
     uint16_t array[N], last[N], row[3 * N], starts[N];
     lyndon_group middle[LYNDON_MAX_MIDDLE];
-    size_t n, block_n, from, to, size, count;
+    size_t n, block_n, definite_n, from, to, size, count;
     bool yes;
     uint8_t refusal;
     lyndon_edit_answer answer;
@@ -68,6 +68,14 @@ static void run_listing(void) {
     g.refusal = lyndon_write_listing(g.pattern, g.n, g.text, LYNDON_MAX_LISTING, &g.count);
 }
 
+static void run_read_block(void) {
+    g.refusal = lyndon_read_block(g.definite, g.definite_n, &g.size, &g.count);
+}
+
+static void run_write_block(void) {
+    g.refusal = lyndon_write_block(g.pattern, g.n, g.text, LYNDON_MAX_DEFINITE_BLOCK, &g.count);
+}
+
 static void run_edit(void) {
     g.answer = lyndon_edit(g.pattern, g.n, g.array, g.n, g.last, g.n, g.from, g.to, g.block, g.block_n, g.middle, LYNDON_MAX_MIDDLE,
                            g.starts, N);
@@ -99,6 +107,8 @@ static const row rows[] = {
     { "lyndon_factor_prefix", run_prefix, N, 1024, 0 },
     { "lyndon_factor_suffix", run_suffix, N, 1024, 0 },
     { "lyndon_write_listing", run_listing, N, 1024, 0 },
+    { "lyndon_read_block", run_read_block, N, 1024, 0 },
+    { "lyndon_write_block", run_write_block, N, 1024, 0 },
     { "lyndon_edit", run_edit, N, 16384, 0 },
     { "lyndon_edit_numbers", run_edit_numbers, N, 16384, 0 },
 };
@@ -126,6 +136,7 @@ static size_t deepest(const row *r, size_t n) {
         family(which, g.pattern, n);
         g.n = n;
         if (lyndon_array(g.pattern, n, g.array, N, &g.count) != 0 || lyndon_last_factors(g.pattern, n, g.last, N, &g.count) != 0) abort();
+        if (lyndon_write_block(g.pattern, n, g.definite, LYNDON_MAX_DEFINITE_BLOCK, &g.definite_n) != 0) abort();
         for (size_t s = 0; s < 5; s++) {
             stretch(s);
             family((which + s) % FAMILIES, g.block, LYNDON_MAX_BLOCK);
