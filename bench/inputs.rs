@@ -1,5 +1,5 @@
-//! The inputs of the benchmark: the ten families of tests/compare/families.rs at 4,096 bytes, and the same with both tables, for the edits.
-//! What is timed on them is main.rs's concern.
+//! The inputs of the benchmark: the ten families of tests/compare/families.rs at 4,096 bytes, the same with both tables, for the edits, and
+//! beginnings of one of them with their blocks. What is timed on them is main.rs's concern.
 use crate::engine::Given;
 use crate::families::{A, B, families};
 use crate::plain;
@@ -54,4 +54,33 @@ impl Stored {
 
 pub fn stored(families: Vec<Family<Vec<u8>>>) -> Vec<Family<Stored>> {
     families.into_iter().map(|(name, words)| (name, words.into_iter().map(Stored::new).collect())).collect()
+}
+
+/// A pattern and its definite length block.
+pub struct Framed {
+    pub pattern: Vec<u8>,
+    pub block: Vec<u8>,
+}
+
+impl Framed {
+    fn new(pattern: &[u8]) -> Framed {
+        let count = pattern.len().to_string();
+        let block = [format!("#{}{count}", count.len()).as_bytes(), pattern].concat();
+        Framed { pattern: pattern.to_vec(), block }
+    }
+}
+
+/// The longest of the blocks' patterns.
+pub const WHOLE: &str = "4,096 bytes";
+
+/// What is copied does not matter, but how much: beginnings of the Fibonacci word.
+pub fn framed(families: &[Family<Vec<u8>>]) -> Vec<Family<Framed>> {
+    let word = first(families, "Fibonacci");
+    [("13 bytes", 13), ("256 bytes", 256), (WHOLE, SIZE)].map(|(name, size)| (name, vec![Framed::new(&word[..size])])).into()
+}
+
+/// The first word of a family.
+pub fn first<'a, I>(families: &'a [Family<I>], name: &str) -> &'a I {
+    let (_, words) = families.iter().find(|f| f.0 == name).expect("the family is there");
+    &words[0]
 }

@@ -1,5 +1,5 @@
 //! Times the engine's calls against the same algorithms in safe Rust, on 4,096 bytes of ten families: `main time` prints a line for each family and
-//! contest, and `main table` two tables of all the lines that it reads, from several links of this program. `main once CONTEST` runs one call of
+//! contest, and `main table` three tables of all the lines that it reads, from several links of this program. `main once CONTEST` runs one call of
 //! each side on the Fibonacci word, for a tool that counts instructions.
 #[allow(dead_code)]
 #[path = "../tests/compare/engine.rs"]
@@ -8,6 +8,7 @@ mod engine;
 mod families;
 mod inputs;
 mod plain;
+mod plain_block;
 mod plain_edit;
 mod plain_text;
 mod race;
@@ -17,12 +18,13 @@ mod table;
 mod tally;
 
 use engine::{Answer, EditAnswer};
-use inputs::{END, Family, MIDDLE, START, Stored};
+use inputs::{END, Framed, MIDDLE, START, Stored, WHOLE, first};
 use race::{Call, Contest};
 use std::fmt::Debug;
 
 type OfWord = Contest<Vec<u8>, usize>;
 type OfEdit = Contest<Stored, EditAnswer>;
+type OfBlock = Contest<Framed, [usize; 2]>;
 
 const NO_TARGET: f64 = f64::INFINITY;
 
@@ -30,10 +32,14 @@ const fn contest<I, O>(name: &'static str, engine: Call<I, O>, plain: Call<I, O>
     Contest { name, engine, plain, target }
 }
 
-/// The number that a call tells, which may not refuse.
-fn told((refusal, numbers): Answer) -> usize {
+/// The numbers that a call tells, which may not refuse.
+fn numbers((refusal, numbers): Answer) -> [usize; 2] {
     assert_eq!(refusal, 0);
-    numbers[0]
+    numbers
+}
+
+fn told(answer: Answer) -> usize {
+    numbers(answer)[0]
 }
 
 fn accepted(answer: EditAnswer) -> EditAnswer {
@@ -81,10 +87,18 @@ const EDITS: [OfEdit; 6] = [
     ),
 ];
 
+const WRITE: Call<Framed, [usize; 2]> = |f, rows| numbers(engine::write_block(&f.pattern, &mut rows.text));
+const READ: Call<Framed, [usize; 2]> = |f, _| numbers(engine::read_block(&f.block));
+
+const BLOCKS: [OfBlock; 3] = [
+    contest("write_block", WRITE, |f, rows| [plain_block::write(&f.pattern, &mut rows.text), 0], 2.0),
+    contest("write_block, copy_from_slice", WRITE, |f, rows| [plain_block::write_by_slices(&f.pattern, &mut rows.text), 0], NO_TARGET),
+    contest("read_block", READ, |f, _| plain_block::read(&f.block).expect("a block").into(), NO_TARGET),
+];
+
 /// Whether there was such a contest.
-fn once<I, O: Debug + PartialEq>(contests: &[Contest<I, O>], name: &str, families: &[Family<I>]) -> bool {
-    let (_, inputs) = families.iter().find(|f| f.0 == "Fibonacci").expect("the family is there");
-    contests.iter().find(|c| c.name == name).map(|c| c.once(&inputs[0])).is_some()
+fn once<I, O: Debug + PartialEq>(contests: &[Contest<I, O>], name: &str, input: &I) -> bool {
+    contests.iter().find(|c| c.name == name).map(|c| c.once(input)).is_some()
 }
 
 fn table<I, O>(contests: &[Contest<I, O>], families: &[&str], least: &table::Least) {
@@ -98,6 +112,7 @@ fn main() {
     match &arguments.iter().map(String::as_str).collect::<Vec<_>>()[..] {
         ["time"] => {
             race::race(&WORDS, &words);
+            race::race(&BLOCKS, &inputs::framed(&words));
             race::race(&EDITS, &inputs::stored(words));
         }
         ["table"] => {
@@ -105,8 +120,15 @@ fn main() {
             let least = table::read(std::io::stdin().lines().map(|line| line.expect("lines of text")));
             table(&WORDS, &families, &least);
             table(&EDITS, &families, &least);
+            let sizes: Vec<_> = inputs::framed(&words).iter().map(|f| f.0).collect();
+            table(&BLOCKS, &sizes, &least);
         }
-        ["once", name] => assert!(once(&WORDS, name, &words) || once(&EDITS, name, &inputs::stored(words)), "no contest {name}"),
+        ["once", name] => {
+            let found = once(&WORDS, name, first(&words, "Fibonacci"))
+                || once(&BLOCKS, name, first(&inputs::framed(&words), WHOLE))
+                || once(&EDITS, name, first(&inputs::stored(words), "Fibonacci"));
+            assert!(found, "no contest {name}");
+        }
         _ => panic!("time, table or once CONTEST"),
     }
 }

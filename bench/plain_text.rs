@@ -15,7 +15,8 @@ const PAIRS: [[u8; 2]; 256] = {
     pairs
 };
 
-fn digits(n: usize) -> usize {
+/// How many digits a number has in decimal.
+pub fn digits(n: usize) -> usize {
     n.checked_ilog10().map_or(1, |log| log as usize + 1)
 }
 

@@ -59,8 +59,10 @@ impl<I, O: Debug + PartialEq> Contest<I, O> {
 
     fn times(&self, inputs: &[I], rows: &mut Rows) -> Times {
         let start = Instant::now();
-        let first = nanoseconds(self.engine, inputs, rows, 1) * inputs.len() as f64;
-        let times = (PASS.as_nanos() as f64 / first).clamp(1.0, 100.0) as usize;
+        let mut times = 1;
+        while nanoseconds(self.engine, inputs, rows, times) * ((times * inputs.len()) as f64) < PASS.as_nanos() as f64 {
+            times *= 2;
+        }
         let mut least = Times::NONE;
         for _ in 0..PASSES {
             least.engine = least.engine.min(nanoseconds(self.engine, inputs, rows, times));
