@@ -1,7 +1,9 @@
-// The calls of `lyndon`, `lyndon_words`, `lyndon_parts` and `lyndon_text` under C names, on numbers and slices: the answer is the refusal's
-// number, and what else is told goes through `&mut`. Each body is the call and the taking apart of its answer; include/lyndon.h declares
-// them. Slices stand before numbers in every list of parameters: a slice that got the last register and a place on the stack would not be
-// found where Rust puts one.
+// The calls of `lyndon`, `lyndon_words`, `lyndon_parts`, `lyndon_text` and `block` under C names, on numbers and slices: the answer is the
+// refusal's number, and what else is told goes through `&mut`. Each body is the call and the taking apart of its answer; include/lyndon.h
+// declares them. Slices stand before numbers in every list of parameters: a slice that got the last register and a place on the stack would
+// not be found where Rust puts one.
+use block::read_block;
+use block::write_block;
 use lyndon::factor;
 use lyndon::last_factors;
 use lyndon_parts::factor_prefix;
@@ -11,10 +13,12 @@ use lyndon_words::is_lyndon;
 use lyndon_words::least_rotation;
 use lyndon_words::longest_word;
 use lyndon_words::longest_words;
+use rows::write_bytes;
 ghost use Rattle.lyndon.specs.Calls.{Factored, ArrayMade, LastFactorsMade};
 ghost use Rattle.lyndon_words.specs.Calls.{StartsListed, wordPart, LyndonTold, RotationFound, TreeListed};
 ghost use Rattle.lyndon_parts.specs.Calls.{PrefixFactored, SuffixFactored};
 ghost use Rattle.lyndon_text.specs.Calls.{ListingWritten};
+ghost use Rattle.block.specs.Calls.{BlockRead, BlockWritten};
 ghost use Rattle.lyndon_c.specs.Copied.{Copied};
 
 #[no_mangle]
@@ -67,12 +71,7 @@ fn copy(part: &[u8], buffer: &mut [u8], size: &mut usize) -> u8
         *size = 0;
         return 8;
     }
-    let mut k = 0;
-    while k < part.len() {
-        buffer[k] = part[k];
-        k += 1;
-    }
-    *size = part.len();
+    *size = write_bytes(part, buffer, 0);
     0
 }
 
@@ -146,6 +145,25 @@ pub extern "C" fn lyndon_write_listing(pattern: &[u8], text: &mut [u8], count: &
     ensures { λ r. ⌜ ListingWritten (now (pattern .entry)) (now (text .entry)) (now (text .exit)) (record { refusal = r; count = now (count .exit) }) ⌝ }
 {
     let answer = write_listing(pattern, text);
+    *count = answer.count;
+    answer.refusal
+}
+
+#[no_mangle]
+pub extern "C" fn lyndon_read_block(bytes: &[u8], place: &mut usize, count: &mut usize) -> u8
+    ensures { λ r. ⌜ BlockRead (now (bytes .entry)) (record { refusal = r; place = now (place .exit); count = now (count .exit) }) ⌝ }
+{
+    let answer = read_block(bytes);
+    *place = answer.place;
+    *count = answer.count;
+    answer.refusal
+}
+
+#[no_mangle]
+pub extern "C" fn lyndon_write_block(pattern: &[u8], bytes: &mut [u8], count: &mut usize) -> u8
+    ensures { λ r. ⌜ BlockWritten (now (pattern .entry)) (now (bytes .entry)) (now (bytes .exit)) (record { refusal = r; count = now (count .exit) }) ⌝ }
+{
+    let answer = write_block(pattern, bytes);
     *count = answer.count;
     answer.refusal
 }
