@@ -1,11 +1,16 @@
-// A function for each public call: it prints the call and what is given, makes the call with a row of `room` entries, and prints the answer with
-// the row as the call leaves it. A part of the row is `[0..n]`: of `[..n]` the search does not know the length.
+// A function for each public call: it prints the call and what is given, makes the call with a row of `room` entries, or a buffer of `room` bytes,
+// and prints the answer with what the call leaves there. A part of the row is `[0..n]`: of `[..n]` the search does not know the length.
 ghost use Prim.Native.Nat.{_≤_};
 
 // What each entry of a row holds before a call, and the longest row.
 pub const OLD: u16 = 7777;
 
 const SPACE: usize = 4097;
+
+// What each byte of a buffer holds before a call, and the longest buffer.
+pub const BLANK: u8 = b'.';
+
+pub const BUFFER: usize = 4104;
 
 pub fn least(a: usize, b: usize) -> usize
     ensures { λ r. ⌜ r ≤ a ⌝ }
@@ -106,4 +111,20 @@ pub fn factor_suffix(pattern: &[u8], table: &[u16], start: usize, room: usize) {
     let row = &mut space[0..n];
     let a = lyndon_parts::factor_suffix(pattern, table, start, row);
     crate::filled(a, row);
+}
+
+pub fn read_block(bytes: &[u8]) {
+    crate::text(b"read_block");
+    crate::content(bytes);
+    crate::extent(block::read_block(bytes));
+}
+
+pub fn write_block(pattern: &[u8], room: usize) {
+    crate::text(b"write_block");
+    crate::word(pattern);
+    let mut space = [BLANK; BUFFER];
+    let n = least(room, BUFFER);
+    let buffer = &mut space[0..n];
+    let a = block::write_block(pattern, buffer);
+    crate::buffer(a, buffer);
 }

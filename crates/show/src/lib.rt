@@ -5,6 +5,7 @@ pub mod calls;
 ghost use mathlib.Core.Path.{_≡_};
 ghost use Prim.Native.Nat.{_<_};
 ghost use Rattle.show.specs.Digest.{digestFrom};
+use block::Extent;
 use libc::STDOUT_FILENO;
 use lyndon_words::Position;
 use lyndon_words::Starts;
@@ -91,6 +92,27 @@ fn digest(r: &[u16]) -> u64
     d
 }
 
+// The digest of bytes.
+fn digest_bytes(s: &[u8]) -> u64
+    ensures { λ d. ⌜ d ≡ digestFrom 0 (now (s .entry)) ⌝ }
+{
+    let mut d = 0;
+    let mut i = 0;
+    while i < s.len() {
+        d = (d * 31 + s[i] as u64) % 65521;
+        i += 1;
+    }
+    d
+}
+
+// A word, with the digest of one that is not printed whole.
+pub fn content(s: &[u8]) {
+    word(s);
+    if WHOLE < s.len() {
+        number(b"digest", digest_bytes(s));
+    }
+}
+
 // A row after its name: `empty`, its entries, or how many there are and their digest.
 pub fn row(name: &[u8], r: &[u16]) {
     text(b" ");
@@ -116,6 +138,22 @@ pub fn filled(a: Filled, r: &[u16]) {
     refusal(a.refusal);
     number(b"count", a.count as u64);
     row(b"row", r);
+    text(b"\n");
+}
+
+// The answer of a call that fills a buffer, and the buffer as the call leaves it.
+pub fn buffer(a: Filled, s: &[u8]) {
+    refusal(a.refusal);
+    number(b"count", a.count as u64);
+    text(b" buffer");
+    content(s);
+    text(b"\n");
+}
+
+pub fn extent(a: Extent) {
+    refusal(a.refusal);
+    number(b"place", a.place as u64);
+    number(b"count", a.count as u64);
     text(b"\n");
 }
 
