@@ -53,7 +53,7 @@ headed block =
     same (take 1 block) (codes "#") && leb 1 (digitsSaid block) && leb (digitsSaid block) 9
     && every (λ k. digit (getD (countDigits block) k 0)) (digitsSaid block)
 
--- At this place there is the end, or one line feed.
+-- The block ends at this place, or behind one line feed there.
 abbrev pub endsAt : ℕ → List ℕ → Bool
 endsAt end block = leb end (length block) && (same (drop end block) [] || same (drop end block) (codes "\n"))
 
