@@ -12,7 +12,7 @@ use lib.Seq.{take-all, take-at, take-length, take-append-seam, length-take-le}
 use borrow.Author.Tests.{eq-eqb, ne-eqb, lt-ltb, le-ltb}
 use Rattle.refusals.proofs.First.{First, none, holds, passes, first-is, too-long, not-long, too-short, not-short}
 use Rattle.refusals.proofs.Outcome.{Refused, fills-refused, fills-accepted}
-use Rattle.refusals.specs.Refusals.{unlessRefused, rowAfter, patternTooLong, wordTooLong, notLyndon, tooShort}
+use Rattle.refusals.specs.Refusals.{unlessRefused, rowAfter, patternTooLong, patternRepeated, wordTooLong, notLyndon, tooShort}
 use Rattle.refusals.specs.declared.Filled.{Filled}
 use Rattle.rows.specs.Row.{written, writtenAt}
 use Rattle.scan.proofs.Next.{next-words}
@@ -24,12 +24,13 @@ use Rattle.words.proofs.Longest.{longest-word}
 use Rattle.words.proofs.Lyndon.{lyndon-true, true-lyndon, false-lyndon, length-some}
 use Rattle.words.proofs.Substrings.{factors-head, longest-listed}
 use Rattle.words.proofs.Tree.{tree-count, numbers-count}
+use Rattle.words.proofs.UniqueLeast.{unique-least}
 use Rattle.words.specs.Factors.{factors, longestPrefix}
 use Rattle.words.specs.Order.{Lyndon, lyndon}
-use Rattle.words.specs.Rotation.{leastRotation}
+use Rattle.words.specs.Rotation.{leastRotation, repeated}
 use Rattle.words.specs.Tables.{LyndonAt, lyndonStarts, longest, longestStarts, longestWord}
 use Rattle.words.specs.Tree.{treeNodes, nodeNumbers}
-use Rattle.lyndon_words.specs.Calls.{StartsListed, wordPart, LyndonTold, RotationFound, TreeListed}
+use Rattle.lyndon_words.specs.Calls.{StartsListed, wordPart, LyndonTold, rotationRefusals, RotationFound, TreeListed}
 use Rattle.lyndon_words.specs.declared.Verdict.{Verdict}
 
 -- longest_words
@@ -126,15 +127,27 @@ module _ (w : List ℕ) where
 
 -- least_rotation
 module _ (s : List ℕ) where
-  pub rotation-long : 4096 < length s → RotationFound s (record { refusal = 1; start = 0 })
-  rotation-long h =
-      let e = sym (first-is (too-long s {rs = []} h)) in
-      record { refusal = e; start = ap (λ n. unlessRefused n (leastRotation s) 0) e }
+  rotation-refused : {k : ℕ} → First (rotationRefusals s) (suc k) → RotationFound s (record { refusal = suc k; start = 0 })
+  rotation-refused {k} f =
+      let e = sym (first-is f) in
+      record { refusal = e; start = ap (λ n. unlessRefused n (leastRotation s) 0) e; unique = λ z. absurd (omega (arith, z)) }
 
-  pub rotation-found : length s ≤ 4096 → (k : ℕ) → k ≡ leastRotation s → RotationFound s (record { refusal = 0; start = k })
-  rotation-found h k q =
-      let e = sym (first-is (not-long s {rs = []} h none)) in
-      record { refusal = e; start = q ∙ ap (λ n. unlessRefused n (leastRotation s) 0) e }
+  pub rotation-long : 4096 < length s → RotationFound s (record { refusal = 1; start = 0 })
+  rotation-long h = rotation-refused (too-long s h)
+
+  module _ (h : length s ≤ 4096) where
+    pub rotation-repeated : true ≡ repeated s → RotationFound s (record { refusal = 10; start = 0 })
+    rotation-repeated e = rotation-refused (not-long s h (holds {r = patternRepeated s} (sym e)))
+
+    pub rotation-found : false ≡ repeated s → (k : ℕ) → k ≡ leastRotation s → RotationFound s (record { refusal = 0; start = k })
+    rotation-found single k q =
+        let f : First (rotationRefusals s) 0 = not-long s h (passes {r = patternRepeated s} (sym single) none) in
+        let e = sym (first-is f) in
+        record {
+          refusal = e;
+          start = q ∙ ap (λ n. unlessRefused n (leastRotation s) 0) e;
+          unique = λ z some. rw q (unique-least s some .0 (sym single));
+        }
 
 -- the pattern stands twice in the buffer's front
 module _ (s buffer : List ℕ) (last : List ℕ) (w : last ≡ written (s ++ s) buffer) where

@@ -2,14 +2,14 @@
 use mathlib.Core.Bool.{false}
 use mathlib.Core.List.{List, [], _∷_}
 use mathlib.Core.Path.{_≡_}
-use Prim.Native.Nat.{ℕ}
+use Prim.Native.Nat.{ℕ, _<_}
 use lib.ListN.{length, take, drop}
 use Rattle.words.specs.Order.{lyndon}
 use Rattle.words.specs.Tables.{longest, longestStarts, longestWord}
-use Rattle.words.specs.Rotation.{leastRotation}
+use Rattle.words.specs.Rotation.{leastRotation, UniqueLeast}
 use Rattle.words.specs.Tree.{treeNodes, nodeNumbers}
 use Rattle.refusals.specs.Filled.{Fills}
-use Rattle.refusals.specs.Refusals.{Refusal, firstOf, unlessRefused, rowAfter, patternTooLong, wordTooLong, notLyndon, tooShort}
+use Rattle.refusals.specs.Refusals.{Refusal, firstOf, unlessRefused, rowAfter, patternTooLong, wordTooLong, notLyndon, tooShort, patternRepeated}
 use Rattle.refusals.specs.declared.Filled.{Filled}
 use Rattle.lyndon_words.specs.declared.Starts.{Starts}
 use Rattle.lyndon_words.specs.declared.Verdict.{Verdict}
@@ -34,10 +34,14 @@ pub record LyndonTold (w : List ℕ) (r : Verdict) : Type 0 where
   pub refusal : r .refusal ≡ firstOf (patternTooLong w ∷ [])
   pub yes : r .yes ≡ unlessRefused (firstOf (patternTooLong w ∷ [])) (lyndon w) false
 
--- least_rotation
+-- least_rotation: the mark of an accepted pattern that is not empty names a single phase
+abbrev pub rotationRefusals : List ℕ → List Refusal
+rotationRefusals s = patternTooLong s ∷ patternRepeated s ∷ []
+
 pub record RotationFound (s : List ℕ) (r : Position) : Type 0 where
-  pub refusal : r .refusal ≡ firstOf (patternTooLong s ∷ [])
-  pub start : r .start ≡ unlessRefused (firstOf (patternTooLong s ∷ [])) (leastRotation s) 0
+  pub refusal : r .refusal ≡ firstOf (rotationRefusals s)
+  pub start : r .start ≡ unlessRefused (firstOf (rotationRefusals s)) (leastRotation s) 0
+  pub unique : r .refusal ≡ 0 → 0 < length s → UniqueLeast s (r .start)
 
 -- lyndon_tree
 abbrev pub TreeListed : List ℕ → List ℕ → List ℕ → Filled → Type 0

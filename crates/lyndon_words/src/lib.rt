@@ -95,7 +95,7 @@ pub fn is_lyndon(word: &[u8]) -> Verdict
     }
 }
 
-// The smallest start of a least rotation, 0 for the empty pattern. Refusal 1.
+// The smallest start of a least rotation, 0 for the empty pattern. Refusals 1, 10.
 pub fn least_rotation(pattern: &[u8]) -> Position
     ensures { λ r. ⌜ RotationFound (now (pattern .entry)) r ⌝ }
 {
@@ -109,8 +109,17 @@ pub fn least_rotation(pattern: &[u8]) -> Position
     let mut twice = [0u8; 8192];
     double(pattern, &mut twice);
     let end = 2 * n;
-    let start = least_start(&twice[..end], n);
-    Position { refusal: 0, start }
+    let found = least_start(&twice[..end], n);
+    if found.repeated {
+        return Position {
+            refusal: 10,
+            start: 0,
+        };
+    }
+    Position {
+        refusal: 0,
+        start: found.start,
+    }
 }
 
 // The nodes of the Lyndon tree, two numbers each: start, length. Refusals 6, 7, 8.

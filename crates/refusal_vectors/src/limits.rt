@@ -34,7 +34,7 @@ fn refused() {
     each_call(&[b'a'; 65536], &mut [OLD; 4097]);
 }
 
-// 4,096 factors: one group, a table of ones, 4,096 starts.
+// 4,096 factors: one group, a table of ones, 4,096 starts, and one letter repeated.
 fn repeated(pattern: &[u8]) {
     show::heading(b"4096 bytes: a .. a");
     calls::factor(pattern, 3);
@@ -46,6 +46,7 @@ fn repeated(pattern: &[u8]) {
     calls::longest_words(pattern, 4096);
     calls::longest_words(pattern, 4097);
     calls::is_lyndon(pattern);
+    calls::least_rotation(pattern);
 }
 
 fn last_start() {

@@ -1,10 +1,11 @@
-// Runs the public calls on one pattern where they refuse, and next to it: short rows, the empty pattern, positions, wrong tables, several refusals
-// at once, the longest patterns. It prints as `vectors` does, by `show`, and its file `stdout` was computed in the same way. Edits are left to
-// `vectors`.
+// Runs the public calls on one pattern where they refuse, and next to it: short rows, the empty pattern, positions, wrong tables, repeated
+// words, several refusals at once, the longest patterns. It prints as `vectors` does, by `show`, and its file `stdout` was computed in the
+// same way. Edits are left to `vectors`.
 mod empty;
 mod limits;
 mod order;
 mod positions;
+mod repeated;
 mod short_rows;
 mod wrong_tables;
 
@@ -13,6 +14,7 @@ fn main() {
     empty::run();
     positions::run();
     wrong_tables::run();
+    repeated::run();
     order::run();
     limits::run();
 }

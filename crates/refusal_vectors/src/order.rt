@@ -26,6 +26,8 @@ fn long_pattern(s: &[u8]) {
     calls::lyndon_array(s, 0);
     calls::last_factors(s, 0);
     calls::longest_words(s, 0);
+    show::heading(b"refusals that hold: 1 10");
+    calls::least_rotation(s);
     show::heading(b"refusals that hold: 1 2 5 8");
     calls::factor_prefix(s, &[], usize::MAX, 0);
     calls::factor_suffix(s, &[], usize::MAX, 0);

@@ -7,6 +7,7 @@ use lib.ListN.{length, take}
 use Rattle.rows.specs.Row.{written}
 use Rattle.words.specs.Edit.{edited}
 use Rattle.words.specs.Order.{lyndon, same}
+use Rattle.words.specs.Rotation.{repeated}
 use Rattle.words.specs.Tables.{lyndonArray, lastFactors}
 
 pub record Refusal : Type 0 where
@@ -67,6 +68,10 @@ notLyndon w = record { number = 7; holds = not (lyndon w) }
 -- There is room for fewer entries than the result needs.
 abbrev pub tooShort : ℕ → ℕ → Refusal
 tooShort needs room = record { number = 8; holds = ltb room needs }
+
+-- A shorter word repeated two or more times.
+abbrev pub patternRepeated : List ℕ → Refusal
+patternRepeated s = record { number = 10; holds = repeated s }
 
 -- The refusals of an edit that need no result: 1 to 5.
 abbrev pub editRefusals : List ℕ → List ℕ → List ℕ → ℕ → ℕ → List ℕ → List Refusal

@@ -1,7 +1,7 @@
 // What the papers say of short patterns: the mark, Lyndon words, the order of bytes, and those lines of the trainer's sheet that ask these calls.
 use show::calls;
 
-// `baab` has mark 1, `abab` has mark 0 and is no Lyndon word.
+// `baab` has mark 1; `abab` is refused, with mark 0, and is no Lyndon word.
 fn marks() {
     show::heading(b"marks");
     calls::least_rotation(b"baab");

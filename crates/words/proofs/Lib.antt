@@ -12,6 +12,8 @@ pub mod Tables
 pub mod Stored
 pub mod Rotation
 pub mod RotationGroups
+pub mod Repeated
+pub mod UniqueLeast
 pub mod Tree
 pub mod Answer
 pub mod EditParts

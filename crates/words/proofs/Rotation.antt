@@ -118,7 +118,7 @@ least-start-before s j h =
 abbrev pub Below : List ℕ → ℕ → ℕ → ℕ → Type 0
 Below t q r m = ((d : ℕ) → d < m → getD t (q + d) 0 ≡ getD t (r + d) 0) × (getD t (q + m) 0 < getD t (r + m) 0)
 
-rotation-below : (s : List ℕ) (q r m : ℕ) → q ≤ length s → r ≤ length s → m < length s → Below (s ++ s) q r m → Less (rotation s q) (rotation s r)
+pub rotation-below : (s : List ℕ) (q r m : ℕ) → q ≤ length s → r ≤ length s → m < length s → Below (s ++ s) q r m → Less (rotation s q) (rotation s r)
 rotation-below s q r m hq hr h b =
     differ-less (rotation s q) (rotation s r) (differ-at (rotation s q) (rotation s r) m
     (rw (length-rotation s q hq) h) (rw (length-rotation s r hr) h)

@@ -46,7 +46,7 @@ least-start-not-inside s i p fits word h = go (le-or-lt (i + p) (leastRotation s
     go (inr l) = absurd (inside (leastRotation s - i) (omega (arith, h)) (omega (arith, h)))
 
 -- M3: a scan from the least start stops at the end of s ++ s
-least-start-scan : (s : List ℕ) {j p : ℕ} → Scan (s ++ s) (leastRotation s) j p → Stops (s ++ s) j p → j ≡ length s + length s
+pub least-start-scan : (s : List ℕ) {j p : ℕ} → Scan (s ++ s) (leastRotation s) j p → Stops (s ++ s) j p → j ≡ length s + length s
 least-start-scan s {j} {p} c stops = go (le-or-lt (length s + length s) j)
   where
     r : ℕ

@@ -1,6 +1,6 @@
 -- The trainer's sheet: the cases P1 to P14 as one table, and one theorem that proves every row from the definitions, by computing.
 -- A second table holds the other facts of the paper about single words. A letter stands for its ASCII code.
-use mathlib.Core.Bool.{false}
+use mathlib.Core.Bool.{Bool, true, false}
 use mathlib.Core.List.{List, [], _∷_}
 use mathlib.Core.Path.{_≡_, refl}
 use Prim.Native.Nat.{ℕ}
@@ -8,7 +8,7 @@ use lib.ListN.{length}
 use Rattle.words.specs.Order.{lyndon}
 use Rattle.words.specs.Factors.{factors, Group}
 use Rattle.words.specs.Tables.{lyndonArray, lastFactors, longest, longestStarts, longestAt, lastFactor, lyndonStarts, groups}
-use Rattle.words.specs.Rotation.{leastRotation}
+use Rattle.words.specs.Rotation.{leastRotation, repeated}
 use Rattle.words.specs.Tree.{treeNodes, nodeNumbers, split}
 use Rattle.words.specs.Edit.{edited, kept, keptOf, resume, middle, middleOf, middleGroups, bits}
 use Rattle.words.proofs.Answer.{answer}
@@ -21,6 +21,8 @@ pub data Row : Type 0 where
   cut : List ℕ → List (List ℕ) → ℕ → List ℕ → Row
   -- a pattern and its phase mark
   rotated : List ℕ → ℕ → Row
+  -- a pattern, and whether it is a shorter word repeated
+  repeating : List ℕ → Bool → Row
   -- a string that is no Lyndon word
   notLyndon : List ℕ → Row
   -- an edit (pattern, from, to, block): kept, middle groups, resume, the longest length, and all starts
@@ -39,6 +41,7 @@ pub data Row : Type 0 where
 abbrev pub Holds : Row → Type 0
 Holds (cut s fs l starts) = (factors s ≡ fs) × (longest s ≡ l) × (longestStarts s ≡ starts)
 Holds (rotated s m) = leastRotation s ≡ m
+Holds (repeating s told) = repeated s ≡ told
 Holds (notLyndon s) = lyndon s ≡ false
 Holds (edit s from to b c gs r l starts) =
     answer s from to b ≡ record { kept = c; resume = r; groups = gs; groupCount = length gs; longest = l; starts = starts; startCount = length starts }
@@ -93,7 +96,7 @@ unfolding factors longest longestStarts lyndonStarts longestAt lyndonArray lastF
 sheet-holds = ((refl, refl, refl), (refl, ((refl, refl, refl), ((refl, refl, refl), (refl, ((refl, refl, refl), (refl, (refl, (refl, (refl, (refl, (refl, (refl, (refl, (refl, (refl, (refl, tt)))))))))))))))))
 
 -- 7F 80 (hexadecimal) is one Lyndon word and 80 7F is two; abab is none. The phase marks of
--- baab and abab are 1 and 0. Then the groups of the worked listing, and binary digits at their edges.
+-- baab and abab are 1 and 0; abab and abcabcabc are shorter words repeated, baab and what has no two symbols are not. Then the groups of the worked listing, and binary digits at their edges.
 abbrev pub facts : List Row
 facts =
     cut (127 ∷ 128 ∷ []) ((127 ∷ 128 ∷ []) ∷ []) 2 (0 ∷ [])
@@ -101,6 +104,11 @@ facts =
     ∷ notLyndon (a ∷ b ∷ a ∷ b ∷ [])
     ∷ rotated (b ∷ a ∷ a ∷ b ∷ []) 1
     ∷ rotated (a ∷ b ∷ a ∷ b ∷ []) 0
+    ∷ repeating (a ∷ b ∷ a ∷ b ∷ []) true
+    ∷ repeating (a ∷ b ∷ c ∷ a ∷ b ∷ c ∷ a ∷ b ∷ c ∷ []) true
+    ∷ repeating (b ∷ a ∷ a ∷ b ∷ []) false
+    ∷ repeating (a ∷ []) false
+    ∷ repeating [] false
     ∷ grouped acbabcabcabac (group 0 3 1 ∷ group 3 3 2 ∷ group 9 4 1 ∷ [])
     ∷ digits 0 0
     ∷ digits 1 1
@@ -109,5 +117,5 @@ facts =
     ∷ []
 
 pub facts-hold : Hold facts
-unfolding factors longest longestStarts lyndonStarts leastRotation groups bits
-facts-hold = ((refl, refl, refl), ((refl, refl, refl), (refl, (refl, (refl, (refl, (refl, (refl, (refl, (refl, tt))))))))))
+unfolding factors longest longestStarts lyndonStarts leastRotation repeated groups bits
+facts-hold = ((refl, refl, refl), ((refl, refl, refl), (refl, (refl, (refl, (refl, (refl, (refl, (refl, (refl, (refl, (refl, (refl, (refl, (refl, tt)))))))))))))))

@@ -1,7 +1,7 @@
 -- The theorems about the definitions, for the auditor: each is a statement over specs/ and `Answer`, and a citation of its proof.
 -- They say that the tests agree with the propositions, that the computed definitions mean what the papers say, and that the owner's
 -- demands 2 and 3 hold for all patterns and all edits with from ≤ to ≤ length s.
-use mathlib.Core.Bool.{true}
+use mathlib.Core.Bool.{true, false}
 use mathlib.Core.List.{List, [], _∷_, _++_}
 use mathlib.Core.Logic.{_↔_}
 use mathlib.Core.Path.{_≡_, refl}
@@ -10,7 +10,7 @@ use lib.ListN.{length, take, drop, getD}
 use Rattle.words.specs.Order.{Less, less, Lyndon, lyndon}
 use Rattle.words.specs.Factors.{Factorisation, factors, Group, groupsFrom}
 use Rattle.words.specs.Tables.{LyndonAt, longestAt, lyndonArray, lastFactor, lastFactors, longest, longestStarts, longestWord, groups}
-use Rattle.words.specs.Rotation.{rotation, leastRotation}
+use Rattle.words.specs.Rotation.{rotation, leastRotation, UniqueLeast, Repeated, repeated}
 use Rattle.words.specs.Tree.{split, treeNodes, Node}
 use Rattle.words.specs.Edit.{Answer, bits}
 use Rattle.words.proofs.Answer.{answer}
@@ -24,6 +24,8 @@ use Rattle.words.proofs.Substrings as substrings
 use Rattle.words.proofs.Tables as tables
 use Rattle.words.proofs.Rotation as rotations
 use Rattle.words.proofs.RotationGroups as rotation-groups
+use Rattle.words.proofs.Repeated as repeats
+use Rattle.words.proofs.UniqueLeast as unique-laws
 use Rattle.words.proofs.Tree as trees
 use Rattle.words.proofs.Fresh as fresh
 use Rattle.words.proofs.Edit as edits
@@ -97,6 +99,13 @@ least-rotation-first = rotations.least-rotation-first
 pub least-rotation-group : (s : List ℕ) (g : Group) → 0 < length s → rotation-groups.FirstOver (length s) (groups (s ++ s)) g
     → leastRotation s ≡ g .start
 least-rotation-group = rotation-groups.least-rotation-group
+
+-- a shorter word repeated: the test agrees with the record, and it holds exactly where a least rotation starts at two places or more
+pub repeated-test : (s : List ℕ) → Repeated s ↔ (repeated s ≡ true)
+repeated-test s = (repeats.true-repeated s, repeats.repeated-true s)
+
+pub unique-least : (s : List ℕ) → 0 < length s → (repeated s ≡ false) ↔ UniqueLeast s (leastRotation s)
+unique-least = unique-laws.unique-least
 
 -- the tree: its rule, its number of nodes, and each node a Lyndon word
 pub tree-rule : (i : ℕ) (w : List ℕ) → 1 < length w

@@ -1,8 +1,8 @@
 -- `lyndon_words::least_rotation` meets its contract: the buffer's front is the pattern twice, of which `least_start` answers.
 use lib.ListN.{length, length-append}
-use mathlib.Core.Path.{ap, _∙_}
-use Rattle.words.specs.Rotation.{leastRotation}
-use Rattle.lyndon_words.proofs.Simple.{rotation-long, rotation-found, twice-is, twice-front}
+use mathlib.Core.Path.{sym, ap, _∙_}
+use Rattle.words.specs.Rotation.{leastRotation, repeated}
+use Rattle.lyndon_words.proofs.Simple.{rotation-long, rotation-repeated, rotation-found, twice-is, twice-front}
 use borrow.Author.Needs.{needs}
 use native.Mathlib.Omega.{arith}
 use Rattle.lyndon_words.proofs.least_rotation.Statement.{statement}
@@ -43,9 +43,16 @@ least-start-requires c κs =
 
 returns-2 : tie.Need-returns-2
 returns-2 c =
-    let s = c .before .before .before .before .before .before .before .args .pattern .now in
-    let f = twice-front s _ _ (c .before .before .before .double .ensures) in
-    rotation-found s (search needs) _ (c .least-start .ensures ∙ ap leastRotation f)
+    let s = c .before .before .before .before .before .before .before .before .args .pattern .now in
+    let f = twice-front s _ _ (c .before .before .before .before .double .ensures) in
+    rotation-repeated s (search needs) (sym (c .if2 .taken) ∙ c .before .least-start .ensures .1 ∙ ap repeated f)
+
+returns-3 : tie.Need-returns-3
+returns-3 c =
+    let s = c .before .before .before .before .before .before .before .before .args .pattern .now in
+    let f = twice-front s _ _ (c .before .before .before .before .double .ensures) in
+    let e = c .before .least-start .ensures in
+    rotation-found s (search needs) (sym (c .if2 .left) ∙ e .1 ∙ ap repeated f) _ (e .0 ∙ ap leastRotation f)
 
 pub least-rotation-spec : {M : Type 1} → statement M
 least-rotation-spec =
@@ -58,4 +65,5 @@ least-rotation-spec =
     array-share-prefix-twice
     slice-aggregate-least-start
     least-start-requires
-    returns-2)
+    returns-2
+    returns-3)

@@ -3,7 +3,7 @@ use Prim.Native.Nat.{_-_, _≤_}
 use lib.ListN.{take}
 use Rattle.words.specs.Rotation.{leastRotation}
 use Rattle.scan.proofs.Next.{group-long}
-use Rattle.rotation.proofs.Start.{start-next, start-found, start-none}
+use Rattle.rotation.proofs.Start.{start-next, start-found, start-tells, start-none, none-tells}
 use borrow.Author.Needs.{needs}
 use native.Mathlib.Omega.{arith}
 use Rattle.rotation.proofs.least_start.Statement.{statement}
@@ -32,10 +32,14 @@ add-end c = search needs
 
 returns : tie.Need-returns Inv-loop μ-loop
 returns c =
-    let g = c .before .before in
+    let g = c .before .before .before in
     let l = g .before .before in
     let s = l .before .before in
-    start-found (s .args .t .now) (s .args .n) (s .pre .0) (s .pre .1) (g .next-group .ensures) (l .loop .inv) (search needs)
+    let t = s .args .t .now in
+    let n = s .args .n in (
+      start-found t n (s .pre .0) (s .pre .1) (g .next-group .ensures) (l .loop .inv) (search needs),
+      start-tells t n (s .pre .0) (s .pre .1) (g .next-group .ensures) (l .loop .inv) (search needs) (search needs),
+    )
 
 loop-less : tie.Need-loop-less Inv-loop μ-loop
 loop-less c = omega (arith, group-long (c .before .before .next-group .ensures))
@@ -51,7 +55,11 @@ returns-2 : tie.Need-returns-2 Inv-loop μ-loop
 returns-2 c =
     let l = c .before in
     let s = l .before .before in
-    start-none (s .args .t .now) (s .args .n) (s .pre .0) (s .pre .1) (l .loop .i) (search needs) (l .loop .inv)
+    let t = s .args .t .now in
+    let n = s .args .n in (
+      start-none t n (s .pre .0) (s .pre .1) (l .loop .i) (search needs) (l .loop .inv),
+      none-tells t n (s .pre .0) (s .pre .1) (l .loop .i) (search needs) (l .loop .inv),
+    )
 
 pub least-start-spec : {M : Type 1} → statement M
 least-start-spec =

@@ -1,0 +1,48 @@
+// Refusal 10, of the phase mark alone: shorter words repeated two or more times, and patterns next to them, which are not.
+use show::calls;
+
+fn refused() {
+    show::heading(b"a shorter word repeated");
+    calls::least_rotation(b"aa");
+    calls::least_rotation(b"aaa");
+    calls::least_rotation(b"abab");
+    calls::least_rotation(b"baba");
+    calls::least_rotation(b"abcabcabc");
+    calls::least_rotation(b"baabaabaabaabaa");
+    calls::least_rotation(b"\x80\x7F\x80\x7F");
+}
+
+fn accepted() {
+    show::heading(b"no shorter word repeated");
+    calls::least_rotation(b"a");
+    calls::least_rotation(b"ab");
+    calls::least_rotation(b"abba");
+    calls::least_rotation(b"ababa");
+    calls::least_rotation(b"abcabcab");
+    calls::least_rotation(b"babaabab");
+    calls::least_rotation(b"bbabbabbabbabab");
+}
+
+// a^2047 b twice, and with its last byte larger; a^1364 b three times.
+fn long() {
+    show::heading(
+        b"4096 bytes: equal halves, and with the last byte larger; 4095 bytes: equal thirds",
+    );
+    let mut halves = [b'a'; 4096];
+    halves[2047] = b'b';
+    halves[4095] = b'b';
+    calls::least_rotation(&halves);
+    halves[4095] = b'c';
+    calls::least_rotation(&halves);
+    let mut thirds = [b'a'; 4095];
+    thirds[1364] = b'b';
+    thirds[2729] = b'b';
+    thirds[4094] = b'b';
+    calls::least_rotation(&thirds);
+}
+
+pub(crate) fn run() {
+    refused();
+    accepted();
+    long();
+}
