@@ -27,6 +27,8 @@ type OfEdit = Contest<Stored, EditAnswer>;
 type OfBlock = Contest<Framed, [usize; 2]>;
 
 const NO_TARGET: f64 = f64::INFINITY;
+/// In place of the mark of a shorter word repeated.
+const REPEATED: usize = usize::MAX;
 
 const fn contest<I, O>(name: &'static str, engine: Call<I, O>, plain: Call<I, O>, target: f64) -> Contest<I, O> {
     Contest { name, engine, plain, target }
@@ -42,6 +44,11 @@ fn told(answer: Answer) -> usize {
     numbers(answer)[0]
 }
 
+/// A mark, or its refusal of a shorter word repeated.
+fn marked(answer: Answer) -> usize {
+    if answer.0 == 10 { REPEATED } else { told(answer) }
+}
+
 fn accepted(answer: EditAnswer) -> EditAnswer {
     assert_eq!(answer.refusal, 0);
     answer
@@ -50,7 +57,7 @@ fn accepted(answer: EditAnswer) -> EditAnswer {
 const FACTOR: Call<Vec<u8>, usize> = |s, rows| told(engine::factor(s, &mut rows.numbers));
 const ARRAY: Call<Vec<u8>, usize> = |s, rows| told(engine::array(s, &mut rows.numbers));
 const LAST: Call<Vec<u8>, usize> = |s, rows| told(engine::last_factors(s, &mut rows.numbers));
-const ROTATION: Call<Vec<u8>, usize> = |s, _| told(engine::least_rotation(s));
+const ROTATION: Call<Vec<u8>, usize> = |s, _| marked(engine::least_rotation(s));
 const LISTING: Call<Vec<u8>, usize> = |s, rows| told(engine::write_listing(s, &mut rows.text));
 
 const WORDS: [OfWord; 7] = [
@@ -58,7 +65,7 @@ const WORDS: [OfWord; 7] = [
     contest("lyndon_array", ARRAY, |s, rows| plain::array(s, &mut rows.numbers), 1.3),
     contest("lyndon_array, memcmp", ARRAY, |s, rows| plain::array_by_memcmp(s, &mut rows.numbers), NO_TARGET),
     contest("last_factors", LAST, |s, rows| plain::last_factors(s, &mut rows.numbers), NO_TARGET),
-    contest("least_rotation", ROTATION, |s, _| plain::least_rotation(s), NO_TARGET),
+    contest("least_rotation", ROTATION, |s, _| plain::least_rotation(s).unwrap_or(REPEATED), NO_TARGET),
     contest("write_listing", LISTING, |s, rows| plain_text::listing(s, &mut rows.text), NO_TARGET),
     contest("write_listing, one pass", LISTING, |s, rows| plain_text::listing_unmeasured(s, &mut rows.text), NO_TARGET),
 ];

@@ -99,12 +99,14 @@ pub fn last_factors(s: &[u8], table: &mut [u16]) -> usize {
     s.len()
 }
 
-/// The start of the first group of the doubled pattern that ends at its middle or after it.
+/// The start of the first group of the doubled pattern that ends at its middle or after it; none where the group's word is shorter than the
+/// pattern, which is that word repeated, or one of its rotations.
 #[inline(never)]
-pub fn least_rotation(s: &[u8]) -> usize {
+pub fn least_rotation(s: &[u8]) -> Option<usize> {
     let n = s.len();
     let mut buffer = [0; 8192];
     buffer[..n].copy_from_slice(s);
     buffer[n..2 * n].copy_from_slice(s);
-    groups(&buffer[..2 * n], 0).find(|(start, length, power)| n <= start + length * power).map_or(0, |group| group.0)
+    let found = groups(&buffer[..2 * n], 0).find(|(start, length, power)| n <= start + length * power);
+    found.map_or(Some(0), |(start, length, _)| (length == n).then_some(start))
 }

@@ -46,6 +46,7 @@ extern "C" {
 #define LYNDON_NOT_LYNDON 7         /* the string is no Lyndon word */
 #define LYNDON_ROW_TOO_SHORT 8      /* the result has more entries than the row */
 #define LYNDON_NOT_A_BLOCK 9        /* the bytes are no definite length block */
+#define LYNDON_REPEATED 10          /* the pattern is a shorter string repeated two or more times */
 
 /* The groups of equal neighbouring factors: start, length of one factor, power. Sets *count to the number of groups.
  * Row: 3 entries a group; 3 * pattern_len are always enough. Refusals 1, 8. */
@@ -70,7 +71,8 @@ uint8_t lyndon_longest_word(const uint8_t *pattern, size_t pattern_len, uint8_t 
 /* Sets *yes to whether the string is a Lyndon word; the empty one is none. Refusal 1. */
 uint8_t lyndon_is_lyndon(const uint8_t *word, size_t word_len, bool *yes);
 
-/* Sets *start to the smallest start of a least rotation, 0 for the empty pattern. Refusal 1. */
+/* Sets *start to the start of the least rotation, 0 for the empty pattern. Refusals 1, 10: a pattern that is a shorter string repeated has
+ * more than one least rotation; that of any other, if it is not empty, starts at this place alone. */
 uint8_t lyndon_least_rotation(const uint8_t *pattern, size_t pattern_len, size_t *start);
 
 /* The nodes of a Lyndon word's tree: start, length. Sets *count to their number, 2 * word_len - 1.

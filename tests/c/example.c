@@ -54,6 +54,7 @@ static void no_row(void) {
     check(tells_lyndon(LITERAL(""), 0, false), "lyndon_is_lyndon of the empty string");
     check(tells_rotation(PATTERN, 0, 9), "lyndon_least_rotation of the pattern");
     check(tells_rotation(LITERAL("baab"), 0, 1), "lyndon_least_rotation of baab");
+    check(tells_rotation(LITERAL("a"), 0, 0), "lyndon_least_rotation of a");
     check(tells_rotation(LITERAL(""), 0, 0), "lyndon_least_rotation of the empty pattern");
 }
 

@@ -38,7 +38,10 @@ static void equal_letters(void) {
     check(fills_any_row(LONGEST_WORD, w, (told){ 0, { 1, 0 } }, (result){ "a", 1 }), "lyndon_longest_word of 4096");
     check(fills_any_row(LISTING, w, (told){ 0, { size, 0 } }, (result){ text, size }), "lyndon_write_listing of 4096");
     check(tells_lyndon(w, 0, false), "lyndon_is_lyndon of 4096");
-    check(tells_rotation(w, 0, 0), "lyndon_least_rotation of 4096");
+    check(tells_rotation(w, 10, 0), "lyndon_least_rotation of 4096 equal letters");
+    pattern[0] = 'b';
+    check(tells_rotation(w, 0, 1), "lyndon_least_rotation of 4096");
+    pattern[0] = 'a';
     table t = { ones, N };
     for (side s = PREFIX; s <= SUFFIX; s++) {
         size_t position = s == PREFIX ? N : 0;

@@ -91,6 +91,16 @@ static size_t rotation(bytes w) {
     return best;
 }
 
+/* Whether the string is its first bytes over and over, two or more times. */
+static bool repeated(bytes w) {
+    for (size_t size = 1; 2 * size <= w.n; size++) {
+        size_t k = size;
+        while (k + size <= w.n && same(slice(w, 0, size), slice(w, k, k + size))) k += size;
+        if (k == w.n) return true;
+    }
+    return false;
+}
+
 /* Parent, all of u, all of v, where v is the longest proper suffix that is a Lyndon word; answers the number of nodes. */
 static size_t tree(bytes w, size_t place, uint16_t *node) {
     node[0] = (uint16_t)place;
@@ -113,6 +123,7 @@ facts naive_facts(bytes w) {
     }
     longest_words(w, &f.length, &f.starts, f.start);
     f.rotation = rotation(w);
+    f.repeated = repeated(w);
     f.lyndon = is_lyndon(w);
     if (f.lyndon) f.nodes = tree(w, 0, f.node);
     return f;

@@ -20,6 +20,7 @@ typedef struct {
     size_t starts;
     uint16_t start[SHORT];
     size_t rotation;
+    bool repeated; /* a shorter string two or more times */
     bool lyndon;
     size_t nodes; /* number of nodes, 0 where there is no tree; two numbers each */
     uint16_t node[4 * SHORT];

@@ -34,7 +34,10 @@ static void no_table(void) {
     check(fills(LONGEST_WORD, equal_letters(LONG), 0, REFUSED(0), NOTHING), "lyndon_longest_word, too long, no row");
     check(fills(LONGEST_WORD, equal_letters(2), 0, REFUSED(8), NOTHING), "lyndon_longest_word, 8");
     check(tells_lyndon(equal_letters(LONG), 1, false), "lyndon_is_lyndon, 1");
-    check(tells_rotation(equal_letters(LONG), 1, 0), "lyndon_least_rotation, 1");
+    check(tells_rotation(LITERAL("abab"), LYNDON_REPEATED, 0), "lyndon_least_rotation of abab, 10");
+    check(tells_rotation(LITERAL("baba"), 10, 0), "lyndon_least_rotation of baba, 10");
+    check(tells_rotation(LITERAL("abcabcabc"), 10, 0), "lyndon_least_rotation of abcabcabc, 10");
+    check(tells_rotation(equal_letters(LONG), 1, 0), "lyndon_least_rotation, 1 before 10");
 }
 
 static void not_blocks(void) {

@@ -2,7 +2,7 @@
 use crate::block_oracle;
 use crate::engine::{self, Answer, Group};
 use crate::lent::{Entry, Lent, lengths};
-use crate::right::{Facts, Holds, Right, flat, part_holds, pattern_holds, tree_holds};
+use crate::right::{Facts, Holds, Right, flat, mark_holds, part_holds, pattern_holds, tree_holds};
 use crate::tally::{Tally, brief, show};
 use std::fmt::Debug;
 
@@ -61,16 +61,21 @@ fn writing(t: &mut Tally, w: &[u8], f: &Facts) {
     rows(t, "tree", w, Want::new(tree_holds(n, f.lyndon), [f.nodes.len() / 2, 0], &f.nodes), engine::tree);
 }
 
+/// A call that tells a number and writes nothing.
+fn tell(t: &mut Tally, name: &str, w: &[u8], holds: Holds, number: usize, call: fn(&[u8]) -> Answer) {
+    let pattern = Lent::holding(w);
+    let right = if holds.none() { (0, [number, 0]) } else { (holds.first(), [0, 0]) };
+    t.equal(&call(pattern.contents()), &right, || format!("{name} of {}", show(w)));
+    t.check(pattern.unchanged(), || format!("{name} of {}: the pattern was changed", show(w)));
+}
+
+pub fn least_rotation(t: &mut Tally, w: &[u8], repeated: bool, mark: usize) {
+    tell(t, "least_rotation", w, mark_holds(w.len(), repeated), mark, engine::least_rotation);
+}
+
 fn telling(t: &mut Tally, w: &[u8], f: &Facts) {
-    let holds = pattern_holds(w.len());
-    let mut tell = |name: &str, number: usize, call: fn(&[u8]) -> Answer| {
-        let pattern = Lent::holding(w);
-        let right = if holds.none() { (0, [number, 0]) } else { (holds.first(), [0, 0]) };
-        t.equal(&call(pattern.contents()), &right, || format!("{name} of {}", show(w)));
-        t.check(pattern.unchanged(), || format!("{name} of {}: the pattern was changed", show(w)));
-    };
-    tell("is_lyndon", usize::from(f.lyndon), engine::is_lyndon);
-    tell("least_rotation", f.mark, engine::least_rotation);
+    tell(t, "is_lyndon", w, pattern_holds(w.len()), usize::from(f.lyndon), engine::is_lyndon);
+    least_rotation(t, w, f.repeated, f.mark);
 }
 
 #[derive(Clone, Copy, Debug, PartialEq)]

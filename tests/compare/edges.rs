@@ -5,6 +5,7 @@ use crate::edits;
 use crate::engine::{self, Given, Group};
 use crate::families::{A, B};
 use crate::fast::FAST;
+use crate::loops;
 use crate::right::Facts;
 use crate::tally::{Random, Tally, show};
 
@@ -173,6 +174,23 @@ fn rows(t: &mut Tally) {
     say("edit_numbers, starts", 4, &|row| engine::edit_numbers(&g, &mut [0; 6], row).refusal);
 }
 
+/// 10: a word twice, three times and 4,096 times is refused; once, and with a byte changed, more or less, it is not.
+fn repeated(t: &mut Tally, long: &[u8]) {
+    let mut changed = long[..2048].repeat(2);
+    changed[3000] ^= 1;
+    #[rustfmt::skip]
+    let all = [
+        (vec![], 0), (vec![A], 0), (vec![A, A], 10), (vec![A, B], 0), (b"abab".to_vec(), 10), (b"baab".to_vec(), 0),
+        (b"abcabcabc".to_vec(), 10), (b"abcabcab".to_vec(), 0), (b"abcabcabca".to_vec(), 0), (b"abcabdabc".to_vec(), 0),
+        (vec![A; 4096], 10), (vec![A; 4097], 1), (long[..2048].repeat(2), 10), (changed, 0), (long[..2047].repeat(2), 10),
+        (long[..1365].repeat(3), 10), (long[..1365].repeat(3)[1..].to_vec(), 0), (long[..241].repeat(17), 1), (long[..4096].to_vec(), 0),
+    ];
+    for (w, want) in all {
+        says(t, "least_rotation", w.len(), engine::least_rotation(&w).0, want);
+        loops::mark(t, &w);
+    }
+}
+
 pub fn all(t: &mut Tally, r: &mut Random) {
     let long = r.letters(&[A, B], 65_536 + 700);
     for (n, tabled, want) in [(4095, 4095, 0), (4096, 4096, 0), (4097, 4097, 1), (65_536, 9, 1), (long.len(), 700, 1)] {
@@ -186,4 +204,5 @@ pub fn all(t: &mut Tally, r: &mut Random) {
     tables(t, &long[..4096]);
     trees(t);
     rows(t);
+    repeated(t, &long);
 }

@@ -76,7 +76,7 @@ fn longest(array: &[u16]) -> (usize, Vec<u16>) {
 }
 
 /// Two candidates i < j; the one whose rotation is found larger passes over what was compared.
-fn mark(w: &[u8]) -> usize {
+pub fn mark(w: &[u8]) -> usize {
     let n = w.len();
     let (mut i, mut j, mut same) = (0, 1, 0);
     while i < n && j < n && same < n {
@@ -96,6 +96,19 @@ fn mark(w: &[u8]) -> usize {
         (i, j, same) = (i.min(j), i.max(j), 0);
     }
     if n == 0 { 0 } else { i.min(j) }
+}
+
+/// By the length of the longest border of each beginning: what it leaves of the whole word is the least period, which must divide the length.
+pub fn repeated(w: &[u8]) -> bool {
+    let mut border = vec![0; w.len()];
+    for i in 1..w.len() {
+        let mut k = border[i - 1];
+        while k > 0 && w[i] != w[k] {
+            k = border[k - 1];
+        }
+        border[i] = if w[i] == w[k] { k + 1 } else { k };
+    }
+    border.last().is_some_and(|&longest| longest > 0 && w.len() % (w.len() - longest) == 0)
 }
 
 /// The longest proper suffix that is a Lyndon word is the last factor of what follows the first byte.
@@ -134,7 +147,7 @@ fn facts(w: &[u8]) -> Facts {
     if lyndon && w.len() <= TREE_LIMIT {
         tree(w, 0, &mut nodes);
     }
-    Facts { groups, array, last, length, starts, mark: mark(w), lyndon, nodes, listing: listing(w) }
+    Facts { groups, array, last, length, starts, mark: mark(w), repeated: repeated(w), lyndon, nodes, listing: listing(w) }
 }
 
 /// The end of each factor.

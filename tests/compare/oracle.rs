@@ -112,10 +112,15 @@ fn longest(w: &[u8]) -> (usize, Vec<u16>) {
 }
 
 /// The smallest start of a rotation that no other is smaller than.
-fn mark(w: &[u8]) -> usize {
+pub fn mark(w: &[u8]) -> usize {
     let rotation = |k: usize| [&w[k..], &w[..k]].concat();
     let all: Vec<Vec<u8>> = (0..w.len()).map(rotation).collect();
     (0..w.len()).find(|&k| all.iter().all(|r| !smaller(r, &all[k]))).unwrap_or(0)
+}
+
+/// Whether it is a shorter word, two or more times.
+pub fn repeated(w: &[u8]) -> bool {
+    (1..w.len()).any(|size| (2..=w.len()).any(|times| size * times == w.len() && w[..size].repeat(times) == w))
 }
 
 /// Parent, all of u, all of v, where v is the longest proper suffix that is a Lyndon word.
@@ -147,7 +152,7 @@ fn facts(w: &[u8]) -> Facts {
         tree(w, 0, &mut nodes);
     }
     let (groups, listing) = (groups_of(w), listing(w));
-    Facts { groups, array: reach(w), last: prefix_table(w), length, starts, mark: mark(w), lyndon, nodes, listing }
+    Facts { groups, array: reach(w), last: prefix_table(w), length, starts, mark: mark(w), repeated: repeated(w), lyndon, nodes, listing }
 }
 
 /// The largest c for which the stored pattern's first c factors end at or before `from` and are the edited one's first c.

@@ -6,9 +6,10 @@ use crate::calls::{self, Side, Want};
 use crate::edits;
 use crate::engine::{self, Answer, Given};
 use crate::families::{A, B};
-use crate::fast::FAST;
+use crate::fast::{self, FAST};
 use crate::lent::Entry;
-use crate::right::{Edit, Facts, Holds, edit_holds, flat, part_holds, pattern_holds, tree_holds};
+use crate::loops;
+use crate::right::{Edit, Facts, Holds, edit_holds, flat, mark_holds, part_holds, pattern_holds, tree_holds};
 use crate::tally::{Random, Tally};
 use std::collections::HashSet;
 use std::fmt::Debug;
@@ -75,6 +76,16 @@ fn blocks_read(t: &mut Tally, w: &[u8]) {
         blocks::read(t, bytes);
     }
     every_pair(t, "read_block", &met, &[9, 1]);
+}
+
+/// A word of 241 bytes has 4,097 when it comes 17 times.
+fn marks(t: &mut Tally, w: &[u8]) {
+    let mut met = Met::new();
+    for looped in [&w[..241].repeat(17), &w[..241].repeat(16), &vec![A; 4097], w] {
+        met.insert(mark_holds(looped.len(), fast::repeated(looped)));
+        loops::mark(t, looped);
+    }
+    every_pair(t, "least_rotation", &met, &[1, 10]);
 }
 
 /// Where there is no tree a row with no entry counts as too short.
@@ -151,6 +162,7 @@ pub fn all(t: &mut Tally, r: &mut Random) {
     let words = [&long[..4096], &long[..]].map(|w| (w, (FAST.facts)(w)));
     plain(t, words[1].0, &words[1].1);
     blocks_read(t, words[1].0);
+    marks(t, words[1].0);
     tree(t);
     for side in [Side::Prefix, Side::Suffix] {
         let mut met = Met::new();

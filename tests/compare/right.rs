@@ -14,6 +14,7 @@ pub struct Facts {
     pub length: usize,
     pub starts: Vec<u16>,
     pub mark: usize,
+    pub repeated: bool,
     pub lyndon: bool,
     /// Two numbers a node; empty where there is no tree or the word is too long for one.
     pub nodes: Vec<u16>,
@@ -57,7 +58,7 @@ impl Holds {
 
     /// The first that is tested, or 0: 9 before the others, which go in number order.
     pub fn first(self) -> u8 {
-        [9, 1, 2, 3, 4, 5, 6, 7, 8].into_iter().find(|n| self.0 >> n & 1 == 1).unwrap_or(0)
+        [9, 1, 2, 3, 4, 5, 6, 7, 8, 10].into_iter().find(|n| self.0 >> n & 1 == 1).unwrap_or(0)
     }
 }
 
@@ -68,6 +69,11 @@ fn wrong_table(table: &[u16], right: &[u16]) -> bool {
 
 pub fn pattern_holds(n: usize) -> Holds {
     Holds::default().and(1, n > LIMIT)
+}
+
+/// The phase mark of a pattern, which may be a shorter word repeated.
+pub fn mark_holds(n: usize, repeated: bool) -> Holds {
+    pattern_holds(n).and(10, repeated)
 }
 
 pub fn tree_holds(n: usize, lyndon: bool) -> Holds {

@@ -49,6 +49,7 @@ static void run_is_lyndon(void) {
 
 static void run_least_rotation(void) {
     g.refusal = lyndon_least_rotation(g.pattern, g.n, &g.count);
+    if (g.refusal == LYNDON_REPEATED) g.refusal = 0;
 }
 
 static void run_tree(void) {

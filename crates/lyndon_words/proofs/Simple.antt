@@ -12,7 +12,7 @@ use lib.Seq.{take-all, take-at, take-length, take-append-seam, length-take-le}
 use borrow.Author.Tests.{eq-eqb, ne-eqb, lt-ltb, le-ltb}
 use Rattle.refusals.proofs.First.{First, none, holds, passes, first-is, too-long, not-long, too-short, not-short}
 use Rattle.refusals.proofs.Outcome.{Refused, fills-refused, fills-accepted}
-use Rattle.refusals.specs.Refusals.{unlessRefused, rowAfter, patternTooLong, patternRepeated, wordTooLong, notLyndon, tooShort}
+use Rattle.refusals.specs.Refusals.{unlessRefused, rowAfter, patternTooLong, wordTooLong, notLyndon, tooShort, patternRepeated}
 use Rattle.refusals.specs.declared.Filled.{Filled}
 use Rattle.rows.specs.Row.{written, writtenAt}
 use Rattle.scan.proofs.Next.{next-words}

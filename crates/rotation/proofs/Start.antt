@@ -12,7 +12,6 @@ use lib.Seq.{length-take-le}
 use Rattle.words.specs.Rotation.{leastRotation, repeated}
 use Rattle.words.proofs.Bounded.{le-or-lt}
 use Rattle.words.proofs.Rotation.{least-rotation-within, least-start-within}
-use Rattle.words.proofs.Scan.{Scan, Stops}
 use Rattle.words.proofs.RotationGroups.{rotation-next, rotation-group}
 use Rattle.words.proofs.Repeated.{false-repeated}
 use Rattle.words.proofs.UniqueLeast.{factor-tells}
@@ -32,33 +31,23 @@ module _ (t : List ℕ) (n : ℕ) (fits : n ≤ length t) (twice : t ≡ take n 
         let c = group-scan (rw twice at g) in
         sym (rotation-group (take n t) h (c .scan) (c .stops) power (c .whole) (omega (arith, length-take-le n t fits)))
 
-    -- its word is shorter than the pattern where that is a shorter word repeated
+    -- its word is shorter than the pattern exactly when the pattern is a shorter word repeated
     pub start-tells : 0 < n → n ≤ i + power * size → ltb size n ≡ repeated (take n t)
     start-tells some l =
-        let c = group-scan (rw twice at g) in
-        at (start-found l) (c .scan) (c .stops)
-      where
-        at : {k j : ℕ} → k ≡ leastRotation (take n t) → Scan (take n t ++ take n t) k j size → Stops (take n t ++ take n t) j size
-            → ltb size n ≡ repeated (take n t)
-        at q c stops =
-            let e = length-take-le n t fits in
-            rw e at (factor-tells (take n t) (rw q at c) stops (omega arith))
+        let c = group-scan (rw (start-found l) at (rw twice at g)) in
+        let e = length-take-le n t fits in
+        rw e at (factor-tells (take n t) (c .scan) (c .stops) (omega arith))
 
   -- a pass ends without an answer only where there is no symbol
   module _ (i : ℕ) (l : n ≤ i) (h : i ≤ leastRotation (take n t)) where
-    no-symbol : n ≤ 0
-    no-symbol = go (le-or-lt n 0)
-      where
-        go : (n ≤ 0) ⊎ (0 < n) → n ≤ 0
-        go (inl z) = z
-        go (inr k) = absurd (let e = length-take-le n t fits in omega (arith, least-rotation-within (take n t) (omega arith)))
-
     pub start-none : 0 ≡ leastRotation (take n t)
     start-none = go (le-or-lt (leastRotation (take n t)) 0)
       where
         go : (leastRotation (take n t) ≤ 0) ⊎ (0 < leastRotation (take n t)) → 0 ≡ leastRotation (take n t)
         go (inl z) = omega arith
-        go (inr k) = absurd (omega (arith, least-start-within (take n t) 0 k, no-symbol, length-take-le n t fits))
+        go (inr k) = absurd (omega (arith, least-start-within (take n t) 0 k, length-take-le n t fits))
 
     pub none-tells : false ≡ repeated (take n t)
-    none-tells = sym (false-repeated (take n t) (λ h. omega (arith, h .shorter, no-symbol, length-take-le n t fits)))
+    none-tells =
+        sym (false-repeated (take n t) (λ r.
+        let m = least-rotation-within (take n t) (omega (arith, r .shorter)) in omega (arith, length-take-le n t fits)))

@@ -30,7 +30,7 @@ pub fn double(s: &[u8], buffer: &mut [u8])
 }
 
 // The smallest start of a least rotation of the first n symbols of t, which is these symbols twice: the start of the first group that ends
-// at n or after it. They are a shorter word repeated where that group's word is shorter than they are.
+// at n or after it. They are a shorter word repeated exactly when that group's word has fewer than n symbols.
 pub fn least_start(t: &[u8], n: usize) -> Least
     requires { ⌜ (n ≤ length (now t)) × (now t ≡ take n (now t) ++ take n (now t)) ⌝ }
     ensures { λ r. ⌜ (r .start ≡ leastRotation (take n (now (t .entry)))) × (r .repeated ≡ repeated (take n (now (t .entry)))) ⌝ }

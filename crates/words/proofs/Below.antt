@@ -32,7 +32,7 @@ differ-first (x ∷ xs) (y ∷ ys) (inr h) = go (differ-first xs ys (h .1))
         early zero l = h .0
         early (suc t) l = d .before t (omega arith)
 
-first-differ : (x y : List ℕ) (m : ℕ) → m < length x → m < length y → getD x m 0 < getD y m 0
+pub first-differ : (x y : List ℕ) (m : ℕ) → m < length x → m < length y → getD x m 0 < getD y m 0
     → ((t : ℕ) → t < m → getD x t 0 ≡ getD y t 0) → Differ x y
 first-differ [] y m a b l e = absurd (omega arith)
 first-differ (x ∷ xs) [] m a b l e = absurd (omega arith)

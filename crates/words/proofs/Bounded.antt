@@ -47,18 +47,6 @@ pub true-every : (test : ℕ → Bool) (n : ℕ) → ((k : ℕ) → k < n → te
 true-every test zero h = refl
 true-every test (suc n) h = rw (h n (omega arith)) (true-every test n (λ k l. h k (omega arith)))
 
--- where not each passes, some number fails
-pub every-false : (test : ℕ → Bool) (n : ℕ) → every test n ≡ false → (k : ℕ) × (k < n) × (test k ≡ false)
-every-false test zero e = absurd (true-false refl e)
-every-false test (suc n) e = go (test n) refl (λ q. every-false test n q) e
-  where
-    go : (b : Bool) → test n ≡ b → (every test n ≡ false → (k : ℕ) × (k < n) × (test k ≡ false)) → (b && every test n) ≡ false
-        → (k : ℕ) × (k < suc n) × (test k ≡ false)
-    go true q ih f =
-        let (k, l, h) = ih f in
-        (k, omega arith, h)
-    go false q ih f = (n, omega arith, q)
-
 pub largest-le : (test : ℕ → Bool) (n : ℕ) → largest test n ≤ n
 largest-le test zero = omega arith
 largest-le test (suc n) = go (test (suc n)) (largest-le test n)

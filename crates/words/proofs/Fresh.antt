@@ -14,11 +14,12 @@ use Rattle.words.specs.Order.{Lyndon}
 use Rattle.words.specs.Factors.{join, factors, groupsFrom, startAt}
 use Rattle.words.specs.Edit.{bits}
 use Rattle.words.proofs.Bounded.{le-cases, smallest-le, smallest-passes, smallest-most}
-use Rattle.words.proofs.Order.{Differ, differ-less, less-irrefl, less-trans}
+use Rattle.words.proofs.Order.{differ-less, less-irrefl, less-trans}
 use Rattle.words.proofs.Lyndon.{Cut, long, short, cut}
 use Rattle.words.proofs.Factors.{Falling, falling-right, factors-falling}
 use Rattle.words.proofs.Groups.{groups-place, groups-most}
-use Rattle.words.proofs.Scan.{Scan, Stops, Stopped, scan-stops, scan-group}
+use Rattle.words.proofs.Below.{first-differ}
+use Rattle.words.proofs.Scan.{Scan, Stops, Stopped, scan-stops, scan-group, scan-times}
 use Rattle.words.proofs.EditParts.{end-apart, end-all, endingBy, ending-before, ending-over, rest-cut}
 
 below-power : (m : ℕ) → m < 2 ^ m
@@ -47,14 +48,6 @@ bits-double m k h = go (bits k) (bits-below k)
     go zero l = absurd (omega arith)
     go (suc d) l = omega (arith, bits-least m d (omega arith))
 
--- the first difference, by its place
-differ-at : (x y : List ℕ) (k : ℕ) → k < length x → k < length y → ((i : ℕ) → i < k → getD x i 0 ≡ getD y i 0) → getD x k 0 < getD y k 0 → Differ x y
-differ-at [] y k a b e h = absurd (omega arith)
-differ-at (c ∷ x) [] k a b e h = absurd (omega arith)
-differ-at (c ∷ x) (d ∷ y) zero a b e h = inl h
-differ-at (c ∷ x) (d ∷ y) (suc k) a b e h =
-    inr (e 0 (omega arith), differ-at x y k (omega arith) (omega arith) (λ i l. e (suc i) (omega arith)) h)
-
 -- B1: in a prefix of a Lyndon word the scan stops at its end
 pub prefix-whole : (f z y : List ℕ) → Lyndon f → f ≡ z ++ y → {j p : ℕ} → Scan z 0 j p → Stops z j p → j ≡ length z
 prefix-whole f z y h e {j} {p} c st = go (le-cases (c .ends))
@@ -76,7 +69,7 @@ prefix-whole f z y h e {j} {p} c st = go (le-cases (c .ends))
         let v : p + i ≡ i + p = omega arith in
         getD-drop p f i 0 ∙ at (p + i) (omega arith) ∙ ap (λ n. getD z n 0) v ∙ c .period i (omega arith) (omega arith)
         ∙ sym (at i (omega arith)) in
-        let low = differ-less (drop p f) f (differ-at (drop p f) f k (omega (arith, length-drop p f, size, l)) (omega (arith, size, l)) same less) in
+        let low = differ-less (drop p f) f (first-differ (drop p f) f k (omega (arith, length-drop p f, size, l)) (omega (arith, size, l)) less same) in
         absurd (less-irrefl f (less-trans f (drop p f) f (h .least p (c .some) (omega (arith, c .fits, size, l))) low))
 
 -- and what follows the whole words is a prefix again
@@ -86,19 +79,12 @@ prefix-rest z p e c h = ap (λ r. r ++ drop n z) same ∙ take-append-drop n z
     n : ℕ
     n = length z - e * p
 
-    again : (e i : ℕ) → e * p + i < length z → getD z (e * p + i) 0 ≡ getD z i 0
-    again zero i l =
-        let q : 0 * p + i ≡ i = omega arith in
-        ap (λ k. getD z k 0) q
-    again (suc e) i l =
-        let q : suc e * p + i ≡ e * p + i + p = omega arith in
-        ap (λ k. getD z k 0) q ∙ c .period (e * p + i) (omega arith) (omega arith) ∙ again e i (omega arith)
-
     same : drop (e * p) z ≡ take n z
     same = ext-getD 0 (drop (e * p) z) (take n z) (omega (arith, length-drop (e * p) z, length-take n z))
         (λ i l.
         let u = length-drop (e * p) z in
-        getD-drop (e * p) z i 0 ∙ again e i (omega arith) ∙ sym (getD-take n z i 0 (omega arith)))
+        let q : e * p + i ≡ i + e * p = omega arith in
+        getD-drop (e * p) z i 0 ∙ ap (λ k. getD z k 0) q ∙ scan-times c e i (omega arith) (omega arith) ∙ sym (getD-take n z i 0 (omega arith)))
 
 -- B2
 fresh-step : (f z y : List ℕ) → Lyndon f → f ≡ z ++ y → 0 < length z

@@ -1,6 +1,6 @@
--- What a repeated word is, by places: it has its word's length as a period, and a pattern with a period that divides its length is the
--- front of that length repeated. So `repeated` tests `Repeated`.
-use mathlib.Core.Bool.{Bool, true, false, not}
+-- What a shorter word repeated is, by places: its word's length is a period of it, and a pattern with a period d that divides its length is
+-- its first d symbols repeated. So `repeated` tests `Repeated`.
+use mathlib.Core.Bool.{Bool, true, false}
 use mathlib.Core.List.{List, [], _∷_, _++_, append-assoc, append-nil}
 use mathlib.Core.Path.{_≡_, refl, sym, ap, _∙_}
 use Prim.Native.Nat.{ℕ, zero, suc, _+_, _*_, _/_, _≤_, _<_}
@@ -8,13 +8,13 @@ use native.Mathlib.Nat.{mul-div-cancel}
 use native.Mathlib.Omega.{arith}
 use lib.ListN.{length, take, drop, getD, replicate, length-append, length-take, length-drop, take-append-drop, List·getD-append, replicate-append-replicate}
 use lib.Seq.{take-all, take-append-seam, getD-append-add, getD-take, getD-drop, ext-getD}
-use borrow.Author.Tests.{not-true, not-false}
-use Rattle.words.specs.Bounded.{every}
+use borrow.Author.Tests.{ltb-true, lt-ltb}
+use Rattle.words.specs.Bounded.{smallest}
 use Rattle.words.specs.Factors.{join}
 use Rattle.words.specs.Order.{same}
 use Rattle.words.specs.Rotation.{Repeated, repeated}
-use Rattle.words.proofs.Bounded.{true-false, every-true, every-false}
-use Rattle.words.proofs.Order.{same-true, same-false}
+use Rattle.words.proofs.Bounded.{smallest-passes, smallest-most}
+use Rattle.words.proofs.Order.{same-true, true-same}
 use Rattle.words.proofs.Factors.{join-append}
 
 -- each symbol comes again after d places
@@ -92,22 +92,25 @@ module _ {s : List ℕ} (h : Repeated s) where
       rw e (repeat-period y (k + k))
 
 -- the test
+abbrev test : List ℕ → ℕ → Bool
+test s d = same s (join (replicate (length s / d) (take d s)))
+
 pub repeated-true : (s : List ℕ) → repeated s ≡ true → Repeated s
 unfolding repeated
 repeated-true s e =
-    let (d, l, f) = every-false (λ d. not (same s (join (replicate (length s / d) (take d s))))) (length s) (not-true _ e) in
-    let q : s ≡ join (replicate (length s / d) (take d s)) = same-true s _ (not-false _ f) in
+    let d = smallest (test s) (length s) in
+    let l = ltb-true d (length s) e in
+    let q : s ≡ join (replicate (length s / d) (take d s)) = same-true s _ (smallest-passes (test s) (length s) l) in
     let n = length-take d s in
     let m : length (take d s) ≡ d = omega arith in
     repeated-front s (length s / d) d l (ap length q ∙ repeat-length (take d s) (length s / d) ∙ ap (λ u. length s / d * u) m) q
 
 pub true-repeated : (s : List ℕ) → Repeated s → repeated s ≡ true
 unfolding repeated
-true-repeated s h = go (every test (length s)) refl
+true-repeated s h =
+    lt-ltb (smallest (test s) (length s)) (length s)
+    (omega (arith, smallest-most (test s) (length s) (length (h .word)) (true-same s _ whole), h .shorter))
   where
-    test : ℕ → Bool
-    test d = not (same s (join (replicate (length s / d) (take d s))))
-
     front : (k : ℕ) → 2 ≤ k → s ≡ join (replicate k (h .word)) → take (length (h .word)) s ≡ h .word
     front zero l q = absurd (omega arith)
     front (suc k) l q = rw q (take-append-seam (h .word) (join (replicate k (h .word))))
@@ -116,10 +119,6 @@ true-repeated s h = go (every test (length s)) refl
     whole =
         let e : length s / length (h .word) ≡ h .times = ap (λ n. n / length (h .word)) (repeated-length h) ∙ mul-div-cancel (h .times) (repeated-some h) in
         rw (e, front (h .times) (h .twice) (h .whole)) (h .whole)
-
-    go : (b : Bool) → every test (length s) ≡ b → not b ≡ true
-    go true e = absurd (same-false s _ (not-true _ (every-true test (length s) e (length (h .word)) (h .shorter))) whole)
-    go false e = refl
 
 pub false-repeated : (s : List ℕ) → (Repeated s → ⊥) → repeated s ≡ false
 false-repeated s h = go (repeated s) refl

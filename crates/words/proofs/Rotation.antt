@@ -1,18 +1,19 @@
 -- Section 8, what the least start is: `leastRotation` is the smallest start of a least rotation, and a pattern that is not empty has one.
 -- Then the same by places of s ++ s, in which each rotation is a stretch: none is below the one at the least start.
 use mathlib.Core.Bool.{Bool, true, false, not}
-use mathlib.Core.List.{List, [], _∷_, _++_}
+use mathlib.Core.List.{List, _++_}
 use mathlib.Core.Logic.{_⊎_, inl, inr}
 use mathlib.Core.Path.{_≡_, refl, sym, ap, _∙_}
 use Prim.Native.Nat.{ℕ, zero, suc, _+_, _-_, _≤_, _<_}
 use native.Mathlib.Omega.{arith}
 use lib.ListN.{length, take, drop, getD, length-append, length-take, length-drop, take-append-drop, List·getD-append}
-use lib.Seq.{take-append-add, drop-append-le, getD-append-add, getD-take, getD-drop}
+use lib.Seq.{take-append-add, drop-append-le, getD-append-add, getD-take, getD-drop, ext-getD}
 use borrow.Author.Tests.{not-true}
 use Rattle.words.specs.Order.{Less, less}
 use Rattle.words.specs.Rotation.{rotation, least, leastRotation}
 use Rattle.words.proofs.Bounded.{le-or-lt, le-cases, every-true, true-every, smallest-le, smallest-passes, smallest-most}
-use Rattle.words.proofs.Order.{Differ, Le, Three, smaller, equal, greater, three, less-le, le-refl, le-trans, less-true, less-false, false-less, less-differ, differ-less, differ-append}
+use Rattle.words.proofs.Below.{first-differ}
+use Rattle.words.proofs.Order.{Le, Three, smaller, equal, greater, three, less-le, le-refl, le-trans, less-true, less-false, false-less, less-differ, differ-less, differ-append}
 
 -- among finitely many strings one is least
 lowest : (f : ℕ → List ℕ) (n : ℕ) → (k : ℕ) × (k ≤ n) × ((j : ℕ) → j ≤ n → Le (f k) (f j))
@@ -91,14 +92,15 @@ getD-rotation s q m h l =
 pub again : (s : List ℕ) (m : ℕ) → m < length s → getD (s ++ s) (length s + m) 0 ≡ getD (s ++ s) m 0
 again s m h = getD-append-add s s m 0 ∙ sym (List·getD-append s s 0 m h)
 
--- the same symbols up to m, and a smaller one there
-differ-at : (x y : List ℕ) (m : ℕ) → m < length x → m < length y → ((d : ℕ) → d < m → getD x d 0 ≡ getD y d 0) → getD x m 0 < getD y m 0
-    → Differ x y
-differ-at [] y m hx hy e l = absurd (omega arith)
-differ-at (x ∷ xs) [] m hx hy e l = absurd (omega arith)
-differ-at (x ∷ xs) (y ∷ ys) zero hx hy e l = inl l
-differ-at (x ∷ xs) (y ∷ ys) (suc m) hx hy e l =
-    inr (e 0 (omega arith), differ-at xs ys m (omega arith) (omega arith) (λ d h. e (suc d) (omega arith)) l)
+-- where s ++ s shows the same d places later, so do the rotations
+pub rotation-again : (s : List ℕ) (k d : ℕ) → k + d ≤ length s → ((m : ℕ) → m < length s → getD (s ++ s) (k + m + d) 0 ≡ getD (s ++ s) (k + m) 0)
+    → rotation s k ≡ rotation s (k + d)
+rotation-again s k d h same =
+    let a = length-rotation s k (omega arith) in
+    ext-getD 0 _ _ (a ∙ sym (length-rotation s (k + d) h)) (λ m l.
+    let e : k + m + d ≡ k + d + m = omega arith in
+    getD-rotation s k m (omega arith) (omega arith) ∙ sym (same m (omega arith)) ∙ ap (λ u. getD (s ++ s) u 0) e
+    ∙ sym (getD-rotation s (k + d) m h (omega arith)))
 
 rotation-front : (s : List ℕ) (q : ℕ) → q ≤ length s → drop q (s ++ s) ≡ rotation s q ++ drop (length s) (drop q (s ++ s))
 rotation-front s q h =
@@ -120,10 +122,10 @@ Below t q r m = ((d : ℕ) → d < m → getD t (q + d) 0 ≡ getD t (r + d) 0) 
 
 pub rotation-below : (s : List ℕ) (q r m : ℕ) → q ≤ length s → r ≤ length s → m < length s → Below (s ++ s) q r m → Less (rotation s q) (rotation s r)
 rotation-below s q r m hq hr h b =
-    differ-less (rotation s q) (rotation s r) (differ-at (rotation s q) (rotation s r) m
+    differ-less (rotation s q) (rotation s r) (first-differ (rotation s q) (rotation s r) m
     (rw (length-rotation s q hq) h) (rw (length-rotation s r hr) h)
-    (λ d l. getD-rotation s q d hq (omega arith) ∙ b .0 d l ∙ sym (getD-rotation s r d hr (omega arith)))
-    (rw (getD-rotation s q m hq h, getD-rotation s r m hr h) (b .1)))
+    (rw (getD-rotation s q m hq h, getD-rotation s r m hr h) (b .1))
+    (λ d l. getD-rotation s q d hq (omega arith) ∙ b .0 d l ∙ sym (getD-rotation s r d hr (omega arith))))
 
 -- nothing in s ++ s is below what starts at the least start
 pub least-start-low : (s : List ℕ) (q m : ℕ) → m < length s → q + m < length s + length s → Below (s ++ s) q (leastRotation s) m → ⊥

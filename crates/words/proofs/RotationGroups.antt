@@ -7,7 +7,7 @@ use Prim.Native.Nat.{ℕ, zero, suc, _+_, _*_, _-_, _/_, _≤_, _<_}
 use native.Mathlib.Nat.{div-mul-le-self, lt-div-mul-add}
 use native.Mathlib.Omega.{arith}
 use lib.ListN.{length, take, drop, getD, length-append, length-take, length-drop, take-append-drop}
-use lib.Seq.{drop-append-le, drop-drop, ext-getD}
+use lib.Seq.{drop-append-le, drop-drop}
 use Rattle.words.specs.Order.{Less, Lyndon}
 use Rattle.words.specs.Factors.{factors, Group, groupsFrom}
 use Rattle.words.specs.Tables.{groups}
@@ -15,7 +15,7 @@ use Rattle.words.specs.Rotation.{rotation, leastRotation}
 use Rattle.words.proofs.Bounded.{le-or-lt, le-cases}
 use Rattle.words.proofs.Order.{less-irrefl, less-trans, less-differ, differ-less, differ-append}
 use Rattle.words.proofs.Scan.{Scan, Stops, scan-again, scan-stops, scan-group}
-use Rattle.words.proofs.Rotation.{least-rotation-within, least-start-within, least-rotation-first, length-rotation, getD-rotation, again, least-start-before, least-start-low}
+use Rattle.words.proofs.Rotation.{least-rotation-within, least-start-within, least-rotation-first, again, rotation-again, least-start-before, least-start-low}
 
 -- the least start is not inside a Lyndon substring
 least-start-not-inside : (s : List ℕ) (i p : ℕ) → i + p ≤ length (s ++ s) → Lyndon (take p (drop i (s ++ s))) → i < leastRotation s
@@ -94,15 +94,7 @@ least-start-not-second s {i} {p} c e = less-irrefl (rotation s r) (rw same at (l
     w = least-start-within s i before
 
     same : rotation s i ≡ rotation s r
-    same =
-        let a = length-rotation s i (omega (arith, before, w)) in
-        let b = length-rotation s r (omega (arith, w)) in
-        ext-getD 0 (rotation s i) (rotation s r) (a ∙ sym b) (λ m h.
-        let x : r + m ≡ i + m + p = omega arith in
-        getD-rotation s i m (omega (arith, before, w)) (omega arith)
-        ∙ sym (c .period (i + m) (omega arith) (omega (arith, w)))
-        ∙ sym (ap (λ v. getD (s ++ s) v 0) x)
-        ∙ sym (getD-rotation s r m (omega (arith, w)) (omega arith)))
+    same = rw e at (rotation-again s i p (omega (arith, w)) (λ m h. c .period (i + m) (omega arith) (omega (arith, w))))
 
 -- a group that starts before the least start ends at it or before
 group-before : (s : List ℕ) (e i : ℕ) {j p : ℕ} → i < leastRotation s → Scan (s ++ s) i j p → Stops (s ++ s) j p → i + e * p ≤ j

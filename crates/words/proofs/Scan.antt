@@ -140,6 +140,13 @@ scan-shift {s} {i} {j} {p} c k r l h =
     word-at s (k + p) r t (k + t + p) (omega arith) (omega arith) ∙ c .period (k + t) (omega arith) (omega arith)
     ∙ sym (word-at s k r t (k + t) refl (omega arith)))
 
+-- the period of a scan, several words on
+pub scan-times : {t : List ℕ} {i j p : ℕ} → Scan t i j p → (e k : ℕ) → i ≤ k → k + e * p < j → getD t (k + e * p) 0 ≡ getD t k 0
+scan-times {t} {i} {j} {p} c zero k l h = ap (λ u. getD t u 0) {x = k + 0 * p} {y = k} (omega arith)
+scan-times {t} {i} {j} {p} c (suc e) k l h =
+    let a : k + suc e * p ≡ k + e * p + p = omega arith in
+    ap (λ u. getD t u 0) a ∙ c .period (k + e * p) (omega arith) (omega arith) ∙ scan-times c e k l (omega arith)
+
 -- one word further on
 pub scan-again : {s : List ℕ} {i j p : ℕ} → Scan s i j p → i + p + p ≤ j → Scan s (i + p) j p
 scan-again {s} {i} {j} {p} c h =

@@ -95,8 +95,8 @@ pub sheet-holds : Hold sheet
 unfolding factors longest longestStarts lyndonStarts longestAt lyndonArray lastFactor lastFactors leastRotation split treeNodes edited kept keptOf resume middle middleOf middleGroups answer
 sheet-holds = ((refl, refl, refl), (refl, ((refl, refl, refl), ((refl, refl, refl), (refl, ((refl, refl, refl), (refl, (refl, (refl, (refl, (refl, (refl, (refl, (refl, (refl, (refl, (refl, tt)))))))))))))))))
 
--- 7F 80 (hexadecimal) is one Lyndon word and 80 7F is two; abab is none. The phase marks of
--- baab and abab are 1 and 0; abab and abcabcabc are shorter words repeated, baab and what has no two symbols are not. Then the groups of the worked listing, and binary digits at their edges.
+-- 7F 80 (hexadecimal) is one Lyndon word and 80 7F is two; abab is none. The phase marks of baab and abab are 1 and 0; abab and abcabcabc are
+-- shorter words repeated, and baab, a and the empty pattern are not. Then the groups of the worked listing, and binary digits at their edges.
 abbrev pub facts : List Row
 facts =
     cut (127 ∷ 128 ∷ []) ((127 ∷ 128 ∷ []) ∷ []) 2 (0 ∷ [])

@@ -1,25 +1,24 @@
 -- A pattern s that is not empty is a shorter word repeated exactly when the first factor of s ++ s from the least start r on is shorter than
 -- s; if it is not, that factor is the rotation at r, and r is the only start of a least rotation.
-use mathlib.Core.Bool.{true, false}
+use mathlib.Core.Bool.{false}
 use mathlib.Core.List.{List, _++_}
 use mathlib.Core.Logic.{_⊎_, inl, inr, _↔_}
 use mathlib.Core.Path.{_≡_, sym, ap, _∙_}
-use Prim.Native.Nat.{ℕ, zero, suc, _+_, _*_, _-_, _/_, _%_, _≤_, _<_}
+use Prim.Native.Nat.{ℕ, _+_, _*_, _-_, _/_, _%_, _≤_, _<_}
 use native.Mathlib.Nat.{div-add-mod', mod-lt, mul-le-mul-right}
 use native.Mathlib.Omega.{arith}
 use lib.Dec.{ltb}
 use lib.ListN.{length, take, drop, getD, length-append, List·getD-append}
-use lib.Seq.{ext-getD}
-use borrow.Author.Tests.{lt-ltb, le-ltb}
+use borrow.Author.Tests.{ltb-false, lt-ltb, le-ltb}
 use Rattle.words.specs.Order.{Less, Lyndon}
 use Rattle.words.specs.Rotation.{rotation, leastRotation, UniqueLeast, Repeated, repeated}
-use Rattle.words.proofs.Bounded.{le-or-lt, le-cases, true-false}
+use Rattle.words.proofs.Bounded.{le-or-lt}
 use Rattle.words.proofs.Order.{ThreeN, smallerN, equalN, greaterN, threeN, less-irrefl}
 use Rattle.words.proofs.Below.{Below, lyndon-below}
-use Rattle.words.proofs.Scan.{Scan, Stops, scan-stops}
-use Rattle.words.proofs.Rotation.{least-rotation-within, least-rotation-first, length-rotation, getD-rotation, again, rotation-below, least-start-low}
+use Rattle.words.proofs.Scan.{Scan, Stops, scan-times, scan-stops}
+use Rattle.words.proofs.Rotation.{least-rotation-within, least-rotation-first, again, rotation-again, rotation-below, least-start-low}
 use Rattle.words.proofs.RotationGroups.{least-start-scan}
-use Rattle.words.proofs.Repeated.{Period, period-repeat, repeated-front, repeated-length, repeated-some, repeated-period, repeated-true, true-repeated, false-repeated}
+use Rattle.words.proofs.Repeated.{Period, period-repeat, repeated-front, repeated-length, repeated-some, repeated-period, true-repeated, false-repeated}
 
 -- M1: a Lyndon substring is at most as long as a period
 lyndon-period : (t : List ℕ) (i p d : ℕ) → 0 < d → Period t d → i + p ≤ length t → Lyndon (take p (drop i t)) → p ≤ d
@@ -31,13 +30,6 @@ lyndon-period t i p d some h fits word = go (le-or-lt p d)
         let b = lyndon-below t i p fits word (i + d) (omega arith) (omega arith) in
         let e : b .left + d ≡ b .right = omega (arith, b .apart) in
         absurd (omega (arith, b .less, h (b .left) (omega (arith, b .inside)), ap (λ u. getD t u 0) e))
-
--- the period of a scan, several words on
-scan-times : {t : List ℕ} {i j p : ℕ} → Scan t i j p → (e k : ℕ) → i ≤ k → k + e * p < j → getD t (k + e * p) 0 ≡ getD t k 0
-scan-times {t} {i} {j} {p} c zero k l h = ap (λ u. getD t u 0) {x = k + 0 * p} {y = k} (omega arith)
-scan-times {t} {i} {j} {p} c (suc e) k l h =
-    let a : k + suc e * p ≡ k + e * p + p = omega arith in
-    ap (λ u. getD t u 0) a ∙ c .period (k + e * p) (omega arith) (omega arith) ∙ scan-times c e k l (omega arith)
 
 -- the first factor from the least start on has the length p
 module _ (s : List ℕ) {j p : ℕ} (c : Scan (s ++ s) (leastRotation s) j p) (stops : Stops (s ++ s) j p) (n : 0 < length s) where
@@ -155,11 +147,7 @@ module _ (s : List ℕ) {j p : ℕ} (c : Scan (s ++ s) (leastRotation s) j p) (s
   not-repeated-unique q = record { within = within; others = λ k l d. go k l d (threeN k r) }
     where
       whole : p ≡ length s
-      whole = at (le-cases factor-whole)
-        where
-          at : (p ≡ length s) ⊎ (p < length s) → p ≡ length s
-          at (inl f) = f
-          at (inr f) = absurd (true-false (true-repeated s (shorter-repeats f)) q)
+      whole = omega (arith, factor-whole, ltb-false p (length s) (factor-tells ∙ q))
 
       go : (k : ℕ) → k < length s → ¬ (k ≡ r) → ThreeN k r → Less (rotation s r) (rotation s k)
       go k l d (smallerN h) = least-rotation-first s k h
@@ -168,16 +156,7 @@ module _ (s : List ℕ) {j p : ℕ} (c : Scan (s ++ s) (leastRotation s) j p) (s
 
 -- the rotations of a repeated word come again after its word's length
 repeated-again : {s : List ℕ} (h : Repeated s) (k : ℕ) → k + length (h .word) < length s → rotation s k ≡ rotation s (k + length (h .word))
-repeated-again {s} h k l =
-    let d = length (h .word) in
-    let a = length-rotation s k (omega arith) in
-    let b = length-rotation s (k + d) (omega arith) in
-    ext-getD 0 _ _ (a ∙ sym b) (λ i u.
-    let e : k + i + d ≡ k + d + i = omega arith in
-    getD-rotation s k i (omega arith) (omega arith)
-    ∙ sym (repeated-period h (k + i) (omega (arith, length-append s s)))
-    ∙ ap (λ v. getD (s ++ s) v 0) e
-    ∙ sym (getD-rotation s (k + d) i (omega arith) (omega arith)))
+repeated-again {s} h k l = rotation-again s k (length (h .word)) (omega arith) (λ m u. repeated-period h (k + m) (omega (arith, length-append s s)))
 
 unique-not-repeated : {s : List ℕ} {r : ℕ} → UniqueLeast s r → Repeated s → ⊥
 unique-not-repeated {s} {r} u h = go (le-or-lt d r)

@@ -1,9 +1,10 @@
--- The phase mark of a pattern: the smallest start of a least rotation; and where it names a single phase: where the pattern is not a
--- shorter word repeated.
+-- The phase mark of a pattern, the smallest start of a least rotation; and patterns that are a shorter word repeated, whose mark names no
+-- single phase.
 use mathlib.Core.Bool.{Bool, not}
 use mathlib.Core.List.{List, _++_}
 use mathlib.Core.Path.{_≡_}
 use Prim.Native.Nat.{ℕ, _/_, _≤_, _<_}
+use lib.Dec.{ltb}
 use lib.ListN.{length, take, drop, replicate}
 use Rattle.words.specs.Bounded.{every, smallest}
 use Rattle.words.specs.Factors.{join}
@@ -26,7 +27,7 @@ pub record UniqueLeast (s : List ℕ) (r : ℕ) : Type 0 where
   pub within : r < length s
   pub others : (k : ℕ) → k < length s → ¬ (k ≡ r) → Less (rotation s r) (rotation s k)
 
--- A shorter word repeated two or more times: nonempty and not primitive.
+-- A shorter word repeated two or more times. So it has at least two symbols.
 pub record Repeated (s : List ℕ) : Type 0 where
   pub word : List ℕ
   pub times : ℕ
@@ -34,6 +35,6 @@ pub record Repeated (s : List ℕ) : Type 0 where
   pub twice : 2 ≤ times
   pub whole : s ≡ join (replicate times word)
 
--- For some d below the length the pattern is its first d symbols repeated.
+-- The smallest d for which the pattern is its first d symbols repeated is below its length. A d of 0 never passes: nothing repeated is empty.
 unfoldable pub repeated : List ℕ → Bool
-repeated s = not (every (λ d. not (same s (join (replicate (length s / d) (take d s))))) (length s))
+repeated s = ltb (smallest (λ d. same s (join (replicate (length s / d) (take d s)))) (length s)) (length s)
