@@ -146,7 +146,7 @@ module _ (s : List ℕ) where
         record {
           refusal = e;
           start = q ∙ ap (λ n. unlessRefused n (leastRotation s) 0) e;
-          unique = λ z some. rw q (unique-least s some .0 (sym single));
+          unique = λ z some. unique-least s k .1 (some, sym single, q);
         }
 
 -- the pattern stands twice in the buffer's front

@@ -100,11 +100,12 @@ pub least-rotation-group : (s : List ℕ) (g : Group) → 0 < length s → rotat
     → leastRotation s ≡ g .start
 least-rotation-group = rotation-groups.least-rotation-group
 
--- a shorter word repeated: the test agrees with the record, and it holds exactly where a least rotation starts at two places or more
+-- a shorter word repeated: the test agrees with the record; the least rotation starts at one place alone exactly when the pattern is not empty
+-- and not repeated, and the place is the phase mark
 pub repeated-test : (s : List ℕ) → Repeated s ↔ (repeated s ≡ true)
 repeated-test s = (repeats.true-repeated s, repeats.repeated-true s)
 
-pub unique-least : (s : List ℕ) → 0 < length s → (repeated s ≡ false) ↔ UniqueLeast s (leastRotation s)
+pub unique-least : (s : List ℕ) (r : ℕ) → UniqueLeast s r ↔ ((0 < length s) × (repeated s ≡ false) × (r ≡ leastRotation s))
 unique-least = unique-laws.unique-least
 
 -- the tree: its rule, its number of nodes, and each node a Lyndon word

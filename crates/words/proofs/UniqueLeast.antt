@@ -16,7 +16,7 @@ use Rattle.words.proofs.Bounded.{le-or-lt}
 use Rattle.words.proofs.Order.{ThreeN, smallerN, equalN, greaterN, threeN, less-irrefl}
 use Rattle.words.proofs.Below.{Below, lyndon-below}
 use Rattle.words.proofs.Scan.{Scan, Stops, scan-times, scan-stops}
-use Rattle.words.proofs.Rotation.{least-rotation-within, least-rotation-first, again, rotation-again, rotation-below, least-start-low}
+use Rattle.words.proofs.Rotation.{least-rotation-within, least-rotation-least, least-rotation-first, again, rotation-again, rotation-below, least-start-low}
 use Rattle.words.proofs.RotationGroups.{least-start-scan}
 use Rattle.words.proofs.Repeated.{Period, period-repeat, repeated-front, repeated-length, repeated-some, repeated-period, true-repeated, false-repeated}
 
@@ -174,8 +174,24 @@ unique-not-repeated {s} {r} u h = go (le-or-lt d r)
         let same = repeated-again h r fits in
         less-irrefl (rotation s r) (rw (sym same) at (u .others (r + d) fits (λ q. omega (arith, repeated-some h))))
 
--- a pattern that is not empty has one start of a least rotation exactly when it is no shorter word repeated
-pub unique-least : (s : List ℕ) → 0 < length s → (repeated s ≡ false) ↔ UniqueLeast s (leastRotation s)
-unique-least s n =
-    let c = scan-stops (s ++ s) (leastRotation s) (omega (arith, least-rotation-within s n, length-append s s)) in
-    (not-repeated-unique s (c .scan) (c .stops) n, λ u. false-repeated s (unique-not-repeated u))
+-- such a place is the smallest start of a least rotation
+unique-start : {s : List ℕ} {r : ℕ} → UniqueLeast s r → r ≡ leastRotation s
+unique-start {s} {r} u = go (threeN (leastRotation s) r)
+  where
+    other : ¬ (leastRotation s ≡ r) → ⊥
+    other d = least-rotation-least s r (u .within) (u .others (leastRotation s) (least-rotation-within s (omega (arith, u .within))) d)
+
+    go : ThreeN (leastRotation s) r → r ≡ leastRotation s
+    go (smallerN h) = absurd (other (λ e. omega arith))
+    go (equalN e) = sym e
+    go (greaterN h) = absurd (other (λ e. omega arith))
+
+-- the least rotation starts at one place alone exactly when the pattern is not empty and no shorter word repeated
+pub unique-least : (s : List ℕ) (r : ℕ) → UniqueLeast s r ↔ ((0 < length s) × (repeated s ≡ false) × (r ≡ leastRotation s))
+unique-least s r =
+    (λ u. (omega (arith, u .within), false-repeated s (unique-not-repeated u), unique-start u), λ h. rw (h .2) (unique (h .0) (h .1)))
+  where
+    unique : 0 < length s → repeated s ≡ false → UniqueLeast s (leastRotation s)
+    unique n q =
+        let c = scan-stops (s ++ s) (leastRotation s) (omega (arith, least-rotation-within s n, length-append s s)) in
+        not-repeated-unique s (c .scan) (c .stops) n q
