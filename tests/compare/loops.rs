@@ -20,14 +20,14 @@ fn naive_mark(t: &mut Tally, w: &[u8]) {
     mark(t, w);
 }
 
-/// The pattern with one byte changed to a letter.
+/// The pattern with one byte changed.
 fn changed(w: &[u8], place: usize, letter: u8) -> Vec<u8> {
     let mut other = w.to_vec();
     other[place] = letter;
     other
 }
 
-/// Every word over the letters to a length, as often as it fits, and next to it: each byte changed to each letter, one more, one less.
+/// Every word over the letters to a length, once and as often as it fits, and next to it: each byte changed to another letter, one more, one less.
 pub fn short(t: &mut Tally, letters: &[u8], length: usize) {
     for word in every_word(letters, length).iter().filter(|w| !w.is_empty()) {
         for times in 1..=LONGEST / word.len() {
@@ -42,7 +42,7 @@ pub fn short(t: &mut Tally, letters: &[u8], length: usize) {
     }
 }
 
-/// Words repeated to about the longest pattern, from any place on, by every divisor of its length, and next to it.
+/// Random words repeated to about the longest pattern, by every divisor of its length, and next to it.
 pub fn long(t: &mut Tally, r: &mut Random, letters: &[u8]) {
     for n in 4085..=4100_usize {
         t.origin = format!("{n} bytes: ");
