@@ -44,7 +44,7 @@ fn told(answer: Answer) -> usize {
     numbers(answer)[0]
 }
 
-/// A mark, or its refusal of a shorter word repeated.
+/// A mark, or `REPEATED` where 10 refuses the pattern.
 fn marked(answer: Answer) -> usize {
     if answer.0 == 10 { REPEATED } else { told(answer) }
 }

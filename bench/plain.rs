@@ -99,8 +99,8 @@ pub fn last_factors(s: &[u8], table: &mut [u16]) -> usize {
     s.len()
 }
 
-/// The start of the first group of the doubled pattern that ends at its middle or after it; none where the group's word is shorter than the
-/// pattern, which is that word repeated, or one of its rotations.
+/// The start of the first group of the doubled pattern that ends at its middle or after it; none where that group's word is shorter than the
+/// pattern, which then is a rotation of that word, repeated.
 #[inline(never)]
 pub fn least_rotation(s: &[u8]) -> Option<usize> {
     let n = s.len();

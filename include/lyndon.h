@@ -71,8 +71,8 @@ uint8_t lyndon_longest_word(const uint8_t *pattern, size_t pattern_len, uint8_t 
 /* Sets *yes to whether the string is a Lyndon word; the empty one is none. Refusal 1. */
 uint8_t lyndon_is_lyndon(const uint8_t *word, size_t word_len, bool *yes);
 
-/* Sets *start to the start of the least rotation, 0 for the empty pattern. Refusals 1, 10: a pattern that is a shorter string repeated has
- * more than one least rotation; that of any other, if it is not empty, starts at this place alone. */
+/* Sets *start to the start of the least rotation, 0 for the empty pattern. That of a pattern that is accepted and not empty starts at this
+ * place alone; that of a shorter string repeated starts at several, so 10 refuses it. Refusals 1, 10. */
 uint8_t lyndon_least_rotation(const uint8_t *pattern, size_t pattern_len, size_t *start);
 
 /* The nodes of a Lyndon word's tree: start, length. Sets *count to their number, 2 * word_len - 1.

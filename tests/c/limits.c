@@ -38,10 +38,6 @@ static void equal_letters(void) {
     check(fills_any_row(LONGEST_WORD, w, (told){ 0, { 1, 0 } }, (result){ "a", 1 }), "lyndon_longest_word of 4096");
     check(fills_any_row(LISTING, w, (told){ 0, { size, 0 } }, (result){ text, size }), "lyndon_write_listing of 4096");
     check(tells_lyndon(w, 0, false), "lyndon_is_lyndon of 4096");
-    check(tells_rotation(w, 10, 0), "lyndon_least_rotation of 4096 equal letters");
-    pattern[0] = 'b';
-    check(tells_rotation(w, 0, 1), "lyndon_least_rotation of 4096");
-    pattern[0] = 'a';
     table t = { ones, N };
     for (side s = PREFIX; s <= SUFFIX; s++) {
         size_t position = s == PREFIX ? N : 0;
@@ -54,6 +50,14 @@ static void equal_letters(void) {
     edited want = { told, middle, places };
     check(edits_records(&g, 1, N, &want), "lyndon_edit of 4096");
     check(edits_numbers(&g, 3, N, &want), "lyndon_edit_numbers of 4096");
+}
+
+/* All letters but the first are equal, so the least rotation starts behind it. */
+static void longest_rotation(void) {
+    static uint8_t pattern[N];
+    memset(pattern, 'a', N);
+    pattern[0] = 'b';
+    check(tells_rotation((bytes){ pattern, N }, 0, 1), "lyndon_least_rotation of 4096");
 }
 
 /* A block of the longest pattern fits the row that always is enough, and is read again; so is one with all nine digits. */
@@ -139,6 +143,7 @@ static void longest_listings(void) {
 void test_limits(void) {
     part("the longest inputs, and rows that are always enough");
     equal_letters();
+    longest_rotation();
     longest_tree();
     most_groups();
     longest_listings();

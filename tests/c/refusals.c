@@ -37,6 +37,7 @@ static void no_table(void) {
     check(tells_rotation(LITERAL("abab"), LYNDON_REPEATED, 0), "lyndon_least_rotation of abab, 10");
     check(tells_rotation(LITERAL("baba"), 10, 0), "lyndon_least_rotation of baba, 10");
     check(tells_rotation(LITERAL("abcabcabc"), 10, 0), "lyndon_least_rotation of abcabcabc, 10");
+    check(tells_rotation(equal_letters(LONG - 1), 10, 0), "lyndon_least_rotation of 4096 equal letters, 10");
     check(tells_rotation(equal_letters(LONG), 1, 0), "lyndon_least_rotation, 1 before 10");
 }
 

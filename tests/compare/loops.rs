@@ -1,4 +1,4 @@
-//! Phase marks of words repeated, and of patterns next to them: a byte changed, more or less.
+//! Phase marks of words repeated, and of patterns next to them: a byte changed, added or taken away.
 use crate::calls;
 use crate::fast;
 use crate::oracle;
@@ -27,7 +27,8 @@ fn changed(w: &[u8], place: usize, letter: u8) -> Vec<u8> {
     other
 }
 
-/// Every word over the letters to a length, once and as often as it fits, and next to it: each byte changed to another letter, one more, one less.
+/// Every word over the letters to a length, once, twice and so on to 48 bytes, and next to it: each byte changed to another letter, one added,
+/// one taken away.
 pub fn short(t: &mut Tally, letters: &[u8], length: usize) {
     for word in every_word(letters, length).iter().filter(|w| !w.is_empty()) {
         for times in 1..=LONGEST / word.len() {
@@ -42,7 +43,8 @@ pub fn short(t: &mut Tally, letters: &[u8], length: usize) {
     }
 }
 
-/// Random words repeated to about the longest pattern, by every divisor of its length, and next to it.
+/// Random words repeated to about the longest pattern, by every divisor of its length, and next to it. The letters are 7F and 80, which a
+/// change of all bits exchanges.
 pub fn long(t: &mut Tally, r: &mut Random, letters: &[u8]) {
     for n in 4085..=4100_usize {
         t.origin = format!("{n} bytes: ");
@@ -53,7 +55,7 @@ pub fn long(t: &mut Tally, r: &mut Random, letters: &[u8]) {
             mark(t, &[&w[..], &w[..1]].concat());
             for _ in 0..4 {
                 let place = r.below(n);
-                mark(t, &changed(&w, place, w[place] ^ 1));
+                mark(t, &changed(&w, place, w[place] ^ 0xFF));
             }
         }
     }

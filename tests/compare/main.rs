@@ -52,8 +52,8 @@ fn main() -> ExitCode {
     for n in [4095, 4096, 4097] {
         run.part(&format!("ten families of {n} bytes"), |t| long::words(t, r, n));
     }
-    run.part("every two-letter word to length 5 repeated to 48 bytes, and a byte changed, more or less", |t| loops::short(t, TWO, 5));
-    run.part("words repeated to about 4,096 bytes by every divisor, and a byte changed, more or less", |t| loops::long(t, r, TWO));
+    run.part("every two-letter word to length 5 repeated to 48 bytes, a byte changed, added or taken away", |t| loops::short(t, TWO, 5));
+    run.part("words repeated to about 4,096 bytes by every divisor, a byte changed, added or taken away", |t| loops::long(t, r, TWO));
     run.part("tables with one entry changed or missing, two letters to length 6", |t| tables::wrong(t, TWO, 6));
     run.part("tables with one entry changed or missing, three letters to length 4", |t| tables::wrong(t, THREE, 4));
     run.part("the edge of each refusal", |t| edges::all(t, r));

@@ -1,5 +1,5 @@
 // The public library on one pattern: longest words, whether a string is a Lyndon word, least rotation, tree. Factors and tables are `lyndon`.
-// Each call tests its refusals in number order and then calls the crate that does the work; none of them requires anything.
+// Each call answers the first of its refusals, in number order, and leaves the work to the crates below; none of them requires anything.
 use longest::measure;
 use longest::write_starts;
 use refusals::Filled;
@@ -95,7 +95,7 @@ pub fn is_lyndon(word: &[u8]) -> Verdict
     }
 }
 
-// The smallest start of a least rotation, 0 for the empty pattern. Refusals 1, 10.
+// The start of the least rotation, 0 for the empty pattern. Refusals 1, 10.
 pub fn least_rotation(pattern: &[u8]) -> Position
     ensures { λ r. ⌜ RotationFound (now (pattern .entry)) r ⌝ }
 {

@@ -34,7 +34,7 @@ fn refused() {
     each_call(&[b'a'; 65536], &mut [OLD; 4097]);
 }
 
-// 4,096 factors: one group, a table of ones, 4,096 starts, and one letter repeated.
+// 4,096 factors: one group, a table of ones, 4,096 starts; no phase mark, since one letter is repeated.
 fn repeated(pattern: &[u8]) {
     show::heading(b"4096 bytes: a .. a");
     calls::factor(pattern, 3);

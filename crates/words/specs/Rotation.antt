@@ -35,6 +35,6 @@ pub record Repeated (s : List ℕ) : Type 0 where
   pub twice : 2 ≤ times
   pub whole : s ≡ join (replicate times word)
 
--- The smallest d for which the pattern is its first d symbols repeated is below its length. A d of 0 never passes: nothing repeated is empty.
+-- The smallest d for which the pattern is its first d symbols repeated is below its length; d = 0 would repeat the empty word, which gives no symbol.
 unfoldable pub repeated : List ℕ → Bool
 repeated s = ltb (smallest (λ d. same s (join (replicate (length s / d) (take d s)))) (length s)) (length s)
