@@ -1,20 +1,17 @@
--- `hex::pair_of` meets its contract: the table is the pairs of all bytes, by one computed equality.
-use mathlib.Core.Path.{refl}
+-- `hex::pair_of` meets its contract: that the list is the digits of all numbers below sixteen is one computed equality.
 use borrow.Author.Needs.{needs}
-use Rattle.hex.specs.Hex.{digitOf, pairOf}
-use Rattle.hex.proofs.Table.{entry}
+use Rattle.hex.proofs.Digits.{pair-at}
 use Rattle.hex.proofs.pair_of.Statement.{statement}
 use Rattle.hex.proofs.pair_of.Tie as tie
 
-mul-result : tie.Need-mul-result
-mul-result c = search needs
+array-read-high : tie.Need-array-read-high
+array-read-high c = search needs
 
-array-copy-out-result : tie.Need-array-copy-out-result
-array-copy-out-result c = search needs
+array-read-low : tie.Need-array-read-low
+array-read-low c = search needs
 
 returns : tie.Need-returns
-unfolding pairOf
-returns c = entry _ pairOf 256 (c .before .args .b) refl (search needs)
+returns c = pair-at (c .args .b) (search needs)
 
 pub pair-of-spec : {M : Type 1} → statement M
-pair-of-spec = tie.close (tie.spec mul-result array-copy-out-result returns)
+pair-of-spec = tie.close (tie.spec array-read-high array-read-low returns)
