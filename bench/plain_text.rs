@@ -1,15 +1,22 @@
 //! The listing of a pattern as one writes it in safe Rust into a lent buffer, without formatting macros.
-//! `listing` measures before it writes, as the engine does; `listing_unmeasured` writes straight away and panics where the buffer is short.
+//! `listing` measures before it writes and reads digits off a list of sixteen, as the engine does; `listing_unmeasured` writes straight away, with
+//! a table of 256 pairs of digits, and panics where the buffer is short.
 #![forbid(unsafe_code)]
 use crate::plain::groups;
 
 const HEADER: &[u8] = b"start,length,power,word\r\n";
 
+const DIGITS: &[u8; 16] = b"0123456789ABCDEF";
+
+const fn pair_of(b: usize) -> [u8; 2] {
+    [DIGITS[b / 16], DIGITS[b % 16]]
+}
+
 /// The two digits of each byte.
 const PAIRS: [[u8; 2]; 256] = {
-    let (digits, mut pairs, mut b) = (b"0123456789ABCDEF", [[0; 2]; 256], 0);
+    let (mut pairs, mut b) = ([[0; 2]; 256], 0);
     while b < 256 {
-        pairs[b] = [digits[b / 16], digits[b % 16]];
+        pairs[b] = pair_of(b);
         b += 1;
     }
     pairs
@@ -46,27 +53,31 @@ impl Writer<'_> {
         self.bytes(b",");
     }
 
-    fn hexadecimal(&mut self, word: &[u8]) {
+    fn hexadecimal(&mut self, word: &[u8], pair_of: impl Fn(usize) -> [u8; 2]) {
         let (pairs, _) = self.next(2 * word.len()).as_chunks_mut();
         for (pair, &b) in pairs.iter_mut().zip(word) {
-            *pair = PAIRS[usize::from(b)];
+            *pair = pair_of(usize::from(b));
         }
     }
 }
 
-/// Writes the listing and answers its length.
-#[inline(never)]
-pub fn listing_unmeasured(s: &[u8], text: &mut [u8]) -> usize {
+/// Writes the listing, with the two digits of a byte by a function, and answers its length.
+fn write(s: &[u8], text: &mut [u8], pair_of: impl Fn(usize) -> [u8; 2]) -> usize {
     let mut out = Writer { text, at: 0 };
     out.bytes(HEADER);
     for (start, length, power) in groups(s, 0) {
         out.field(start);
         out.field(length);
         out.field(power);
-        out.hexadecimal(&s[start..start + length]);
+        out.hexadecimal(&s[start..start + length], &pair_of);
         out.bytes(b"\r\n");
     }
     out.at
+}
+
+#[inline(never)]
+pub fn listing_unmeasured(s: &[u8], text: &mut [u8]) -> usize {
+    write(s, text, |b| PAIRS[b])
 }
 
 fn measure(s: &[u8]) -> usize {
@@ -74,11 +85,11 @@ fn measure(s: &[u8]) -> usize {
     HEADER.len() + groups(s, 0).map(line).sum::<usize>()
 }
 
-/// The same, where the buffer is long enough; else it answers 0 and writes nothing.
+/// Where the buffer is too short it answers 0 and writes nothing.
 #[inline(never)]
 pub fn listing(s: &[u8], text: &mut [u8]) -> usize {
     if text.len() < measure(s) {
         return 0;
     }
-    listing_unmeasured(s, text)
+    write(s, text, pair_of)
 }
