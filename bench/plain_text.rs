@@ -53,23 +53,23 @@ impl Writer<'_> {
         self.bytes(b",");
     }
 
-    fn hexadecimal(&mut self, word: &[u8], pair_of: impl Fn(usize) -> [u8; 2]) {
+    fn hexadecimal(&mut self, word: &[u8], two_digits: impl Fn(usize) -> [u8; 2]) {
         let (pairs, _) = self.next(2 * word.len()).as_chunks_mut();
         for (pair, &b) in pairs.iter_mut().zip(word) {
-            *pair = pair_of(usize::from(b));
+            *pair = two_digits(usize::from(b));
         }
     }
 }
 
-/// Writes the listing, with the two digits of a byte by a function, and answers its length.
-fn write(s: &[u8], text: &mut [u8], pair_of: impl Fn(usize) -> [u8; 2]) -> usize {
+/// Writes the listing, with a function that gives a byte's two digits, and answers its length.
+fn write(s: &[u8], text: &mut [u8], two_digits: impl Fn(usize) -> [u8; 2]) -> usize {
     let mut out = Writer { text, at: 0 };
     out.bytes(HEADER);
     for (start, length, power) in groups(s, 0) {
         out.field(start);
         out.field(length);
         out.field(power);
-        out.hexadecimal(&s[start..start + length], &pair_of);
+        out.hexadecimal(&s[start..start + length], &two_digits);
         out.bytes(b"\r\n");
     }
     out.at

@@ -6,8 +6,8 @@ use native.Mathlib.Omega.{arith}
 use lib.ListN.{getD}
 use Rattle.hex.specs.Hex.{digitOf, pairOf}
 
--- f 0, f 1, .. of n entries
-abbrev pub values : (ℕ → ℕ) → ℕ → List ℕ
+-- the n values f 0, f 1, ..
+abbrev values : (ℕ → ℕ) → ℕ → List ℕ
 values f zero = []
 values f (suc n) = f 0 ∷ values (λ k. f (suc k)) n
 

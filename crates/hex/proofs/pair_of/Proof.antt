@@ -1,4 +1,4 @@
--- `hex::pair_of` meets its contract: that the list is the digits of all numbers below sixteen is one computed equality.
+-- `hex::pair_of` meets its contract: the checker computes that the list in the code is `digits`.
 use borrow.Author.Needs.{needs}
 use Rattle.hex.proofs.Digits.{pair-at}
 use Rattle.hex.proofs.pair_of.Statement.{statement}
