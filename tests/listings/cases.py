@@ -35,8 +35,8 @@ def factors(s):
     return out
 
 
-def lines(fs, at):
-    text, i = b"", 0
+def lines(fs):
+    text, i, at = b"", 0, 0
     while i < len(fs):
         j = i
         while j < len(fs) and fs[j] == fs[i]:
@@ -52,7 +52,7 @@ def refused(number):
 
 
 def listing(s):
-    return refused(1) if len(s) > 4096 else HEADER + lines(factors(s), 0)
+    return refused(1) if len(s) > 4096 else HEADER + lines(factors(s))
 
 
 def edited(s, b, csv):
@@ -67,17 +67,7 @@ def edited(s, b, csv):
     e = s[:f] + b + s[t:]
     if len(e) > 4096:
         return refused(4)
-    old, new = factors(s), factors(e)
-    kept = end = 0
-    while kept < min(len(old), len(new)) and old[kept] == new[kept] and end + len(old[kept]) <= f:
-        end += len(old[kept])
-        kept += 1
-    starts = [sum(map(len, new[:i])) for i in range(len(new))]
-    resume = next((p for p in range(t, len(s)) if f + len(b) + p - t in starts), len(s))
-    place = f + len(b) + resume - t
-    middle = [g for g, a in zip(new, starts) if end <= a < place]
-    rest = [g for g, a in zip(new, starts) if a >= place]
-    return HEADER + lines(new[:kept], 0) + lines(middle, end) + lines(rest, place)
+    return HEADER + lines(factors(e))
 
 
 def run(program, stdin, files):
@@ -112,8 +102,15 @@ def listing_cases():
 def edited_cases():
     rnd = random.Random(6)
     full = bytes(rnd.randrange(256) for _ in range(4096))
-    seam = HEADER + b"0,1,1,61\r\n1,1,1,61\r\n2,1,1,61\r\n"
-    yield "equal words across the seams", {"pattern.bin": b"aa", "block.bin": b"a", "edit.csv": EDIT + b"1,1\r\n"}, seam
+    for name, s, b, row, want in [("joined at both seams", b"aa", b"a", b"1,1", b"0,1,3,61\r\n"),
+                                  ("joined at both seams, longer words", SHEET, b"abc", b"6,6", b"0,3,1,616362\r\n3,3,3,616263\r\n12,4,1,61626163\r\n"),
+                                  ("joined at the first seam", b"aba", b"ab", b"2,2", b"0,2,2,6162\r\n4,1,1,61\r\n"),
+                                  ("joined at the second seam", b"bab", b"ab", b"1,1", b"0,1,1,62\r\n1,2,2,6162\r\n"),
+                                  ("joined through an empty middle", b"abaaab", b"", b"2,4", b"0,2,2,6162\r\n"),
+                                  ("joined where nothing changes", b"aa", b"", b"1,1", b"0,1,2,61\r\n"),
+                                  ("different words of equal length at both seams", b"ca", b"b", b"1,1", b"0,1,1,63\r\n1,1,1,62\r\n2,1,1,61\r\n"),
+                                  ("4,096 equal words over both seams", b"a" * 3840, b"a" * 256, b"2000,2000", b"0,1,4096,61\r\n")]:
+        yield name, {"pattern.bin": s, "block.bin": b, "edit.csv": EDIT + row + b"\r\n"}, HEADER + want
     for name, s, b, row in [("P5", SHEET, b"b", b"5,6"), ("P6", SHEET, b"a", b"11,11"), ("P13, leading zeros", b"aba", b"c", b"00003,3"),
                             ("emptied", SHEET, b"", b"0,13"), ("full size", full, full[:256], b"1000,1256"), ("4", full, b"xx", b"5,5"),
                             ("3", SHEET, bytes(257), b"0,1"), ("3 before 4", full, bytes(257), b"5,5"), ("2 before 3", SHEET, bytes(257), b"5,4"), ("past the end", SHEET, b"", b"0,14"), ("4,096 starts", b"a" * 4096, b"", b"0,0"),

@@ -1,13 +1,14 @@
--- The three copies that make the edited pattern.
+-- The three copies that make the edited pattern, and the row that then holds it.
 use mathlib.Core.List.{List, _++_, append-assoc}
-use mathlib.Core.Path.{_≡_, ap, _∙_}
+use mathlib.Core.Path.{_≡_, sym, ap, _∙_}
 use Prim.Native.Nat.{ℕ, _+_, _-_, _≤_}
 use native.Mathlib.Omega.{arith}
 use lib.ListN.{length, take, drop, length-append, length-drop}
-use lib.Seq.{take-all, length-take-le}
+use lib.Seq.{take-all, take-at, length-take-le}
 use Rattle.rows.specs.Row.{written, writtenAt}
 use Rattle.rows.proofs.Written.{written-append}
 use Rattle.words.specs.Edit.{edited}
+use Rattle.words.proofs.Edit.{length-edited}
 
 -- the three parts of the edited pattern, one copied behind the other
 module _ (s : List ℕ) (from to : ℕ) (b t : List ℕ) (h : from ≤ length s) (k : from + length b + (length s - to) ≤ length t) where
@@ -30,3 +31,21 @@ module _ (s : List ℕ) (from to : ℕ) (b t : List ℕ) (h : from ≤ length s)
       ∙ ap (λ u. writtenAt (from + length b) u (written (take from s ++ b) t)) (take-all (length s - to) (drop to s) (omega arith))
       ∙ ap (λ i. writtenAt i (drop to s) (written (take from s ++ b) t)) e
       ∙ written-append 0 (take from s ++ b) (drop to s) t (omega (arith, front)) ∙ ap (λ u. written u t) (append-assoc (take from s) b (drop to s))
+
+-- the edited pattern in the front of the row to which it was spliced
+module _ (s : List ℕ) (from to : ℕ) (b : List ℕ) (h : from ≤ to) (l : to ≤ length s) (row : List ℕ) {row′ : List ℕ}
+    (w : row′ ≡ written (edited s from to b) row) where
+  abbrev m : ℕ
+  m = from + length b + (length s - to)
+
+  size : length (edited s from to b) ≡ m
+  size = length-edited s from to b h l
+
+  pub spliced-within : m ≤ length row′
+  spliced-within = omega (arith, size, ap length w, length-append (edited s from to b) (drop (length (edited s from to b)) row))
+
+  pub spliced-long : m ≡ length (take m row′)
+  spliced-long = sym (length-take-le m row′ spliced-within)
+
+  pub spliced-edited : take m row′ ≡ edited s from to b
+  spliced-edited = ap (take m) w ∙ take-at (edited s from to b) (drop (length (edited s from to b)) row) m size

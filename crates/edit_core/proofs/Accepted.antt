@@ -1,10 +1,10 @@
 -- What holds of an edit past the refusals 1 to 5: it is accepted, and the refusals that are tested later decide.
 use mathlib.Core.List.{List, _++_}
-use mathlib.Core.Path.{_≡_, refl, sym, ap, _∙_}
-use Prim.Native.Nat.{ℕ, zero, suc, _+_, _-_, _≤_}
+use mathlib.Core.Path.{_≡_, refl, sym, _∙_}
+use Prim.Native.Nat.{ℕ, zero, suc, _+_, _-_}
 use native.Mathlib.Omega.{arith}
-use lib.ListN.{length, take, drop, length-append}
-use lib.Seq.{take-at, length-take-le}
+use lib.ListN.{length, take}
+use Rattle.cuts.proofs.Spliced.{spliced-edited}
 use Rattle.edit.specs.Inner.{FillsNumbers}
 use Rattle.edit.specs.declared.Answer.{Answer}
 use Rattle.edit.specs.declared.Answer.the-variants.{Refused}
@@ -42,26 +42,16 @@ module _ (s array last : List ℕ) (from to : ℕ) (b : List ℕ) where
     shape : Shaped s from to b
     shape = passed-shape s array last from to b first zero
 
-    size : length (edited s from to b) ≡ from + length b + (length s - to)
-    size = length-edited s from to b (shape .start) (shape .stretch)
-
-    -- the row to which the edited pattern was spliced
-    module _ (row : List ℕ) {row′ : List ℕ} (w : row′ ≡ written (edited s from to b) row) where
-      pub spliced-within : from + length b + (length s - to) ≤ length row′
-      spliced-within = omega (arith, size, ap length w, length-append (edited s from to b) (drop (length (edited s from to b)) row))
-
-      pub spliced-long : from + length b + (length s - to) ≡ length (take (from + length b + (length s - to)) row′)
-      spliced-long = sym (length-take-le (from + length b + (length s - to)) row′ spliced-within)
-
-      pub passed-accepted : Accepted s array from to b (take (from + length b + (length s - to)) row′)
-      passed-accepted =
-          let m = from + length b + (length s - to) in
-          record {
-            start = shape .start;
-            stretch = shape .stretch;
-            pattern = shape .pattern;
-            block = shape .block;
-            table = passed-table s array last from to b first zero;
-            spliced = ap (take m) w ∙ take-at (edited s from to b) (drop (length (edited s from to b)) row) m size;
-            fits = omega (arith, size, shape .fits);
-          }
+    -- the front of the row to which the edited pattern was spliced
+    pub passed-accepted : (row : List ℕ) {row′ : List ℕ} → row′ ≡ written (edited s from to b) row
+        → Accepted s array from to b (take (from + length b + (length s - to)) row′)
+    passed-accepted row w =
+        record {
+          start = shape .start;
+          stretch = shape .stretch;
+          pattern = shape .pattern;
+          block = shape .block;
+          table = passed-table s array last from to b first zero;
+          spliced = spliced-edited s from to b (shape .start) (shape .stretch) row w;
+          fits = omega (arith, length-edited s from to b (shape .start) (shape .stretch), shape .fits);
+        }

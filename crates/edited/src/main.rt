@@ -48,7 +48,8 @@ fn refusal_of(answer: Answer) -> u8
     }
 }
 
-// Writes all that is printed for an edit to the front of a buffer that holds every listing.
+// Writes all that is printed for an edit to the front of a buffer that holds every listing. The answer tells whether the edit is accepted; the
+// groups of the whole edited pattern are read off that pattern.
 fn write_answer(pattern: &[u8], from: usize, to: usize, block: &[u8], text: &mut [u8]) -> usize
     requires { ⌜ (length (now pattern) ≤ 4096) × (77849 ≤ length (now text)) ⌝ }
     ensures { λ r. ⌜ Puts (editOutput (now (pattern .entry)) from to (now (block .entry))) 0 (now (text .entry)) (now (text .exit)) r ⌝ }
@@ -69,10 +70,10 @@ fn write_answer(pattern: &[u8], from: usize, to: usize, block: &[u8], text: &mut
         &mut middle,
         &mut starts,
     );
-    let Answer::Done(counts) = answer else {
+    let Answer::Done(_) = answer else {
         return write_refusal(refusal_of(answer) as usize, text);
     };
-    write_edited(pattern, &array, from, to, block, counts, &middle, text)
+    write_edited(pattern, from, to, block, text)
 }
 
 // Writes all that is printed for the contents of the three files to the front of such a buffer.

@@ -50,7 +50,7 @@ putting-all {out} {d} {b} {i} {n} h w =
     }
 
 -- one part behind another
-pub puts-length : {xs d b : List ℕ} {i n : ℕ} → Puts xs i d b n → Room xs i d → length b ≡ length d
+puts-length : {xs d b : List ℕ} {i n : ℕ} → Puts xs i d b n → Room xs i d → length b ≡ length d
 puts-length p h = ap length (p .leaves) ∙ simp (length-append, length-take, length-drop) (omega arith)
 
 pub puts-then : {xs ys d b b′ : List ℕ} {i n m : ℕ} → Puts xs i d b n → Puts ys n b b′ m → Room xs i d → Puts (xs ++ ys) i d b′ m

@@ -11,7 +11,7 @@ ghost use Rattle.words.specs.Factors.{groupNumbers};
 ghost use Rattle.words.specs.Tables.{lyndonArray, suffixGroups};
 
 // The group of factors that starts at i.
-pub fn group_at(s: &[u8], table: &[u16], i: usize) -> Stretch
+fn group_at(s: &[u8], table: &[u16], i: usize) -> Stretch
     requires { ⌜ (i < length (now s)) × (take (length (now s)) (now table) ≡ lyndonArray (now s)) ⌝ }
     ensures { λ r. ⌜ NextGroup (now (s .entry)) i (r .length) (r .power) ⌝ }
 {

@@ -3,9 +3,9 @@ use mathlib.Core.Path.{_≡_, refl}
 use Rattle.hex.specs.Hex.{pairOf}
 use Rattle.words.specs.Factors.{factors}
 use Rattle.words.specs.Tables.{groups}
-use Rattle.words.specs.Edit.{edited, keptOf, kept, resume, middleOf, middle, middleGroups}
+use Rattle.words.specs.Edit.{edited}
 use Rattle.decimal.specs.Decimal.{codes, digitCount, decimal}
-use Rattle.text.specs.Listing.{header, line, listingText, keptGroups, resumedGroups, editedText, refusalText}
+use Rattle.text.specs.Listing.{header, line, listingText, editedText, refusalText}
 
 -- the worked example
 pub example-listing : listingText (codes "acbabcabcabac")
@@ -17,15 +17,15 @@ pub empty-listing : listingText (codes "") ≡ codes "start,length,power,word\r\
 unfolding listingText groups factors header
 empty-listing = refl
 
--- P12: equal words across the seams are three lines
-pub example-edited : editedText (codes "aa") 1 1 (codes "a") ≡ codes "start,length,power,word\r\n0,1,1,61\r\n1,1,1,61\r\n2,1,1,61\r\n"
-unfolding editedText keptGroups resumedGroups middleGroups middle middleOf kept keptOf resume edited factors header line decimal digitCount pairOf
+-- P12: equal words across both seams are one line
+pub example-edited : editedText (codes "aa") 1 1 (codes "a") ≡ codes "start,length,power,word\r\n0,1,3,61\r\n"
+unfolding edited listingText groups factors header line decimal digitCount pairOf
 example-edited = refl
 
 -- P6
 pub example-split : editedText (codes "acbabcabcabac") 11 11 (codes "a")
     ≡ codes "start,length,power,word\r\n0,3,1,616362\r\n3,3,2,616263\r\n9,2,1,6162\r\n11,3,1,616163\r\n"
-unfolding editedText keptGroups resumedGroups middleGroups middle middleOf kept keptOf resume edited factors header line decimal digitCount pairOf
+unfolding edited listingText groups factors header line decimal digitCount pairOf
 example-split = refl
 
 pub example-refusal : refusalText 1 ≡ codes "refused,1\r\n"

@@ -72,12 +72,12 @@ module _ (t : List ℕ) (d : ℕ) where
         count-least e d (omega arith),
       )
 
-  pub lines-bound : (i : ℕ) (fs : List (List ℕ)) → length fs < 10 ^ suc d → i + length (join fs) < 10 ^ suc d
+  lines-bound : (i : ℕ) (fs : List (List ℕ)) → length fs < 10 ^ suc d → i + length (join fs) < 10 ^ suc d
       → length (lines t (groupsFrom i fs)) ≤ (5 + 3 * suc d) * length (groupsFrom i fs) + 2 * length (join fs)
   lines-bound i fs = packed-bound (packed i fs)
 
 -- a pattern has no more factors than symbols
-pub factors-few : (s : List ℕ) → length (factors s) ≤ length s
+factors-few : (s : List ℕ) → length (factors s) ≤ length s
 factors-few s = omega (arith, end-apart 0 (length (factors s)) (factors s) (factors-falling s) (omega arith) (omega arith), end-all s)
 
 pub suffix-bound : (s : List ℕ) (i d : ℕ) → i ≤ length s → length s < 10 ^ suc d

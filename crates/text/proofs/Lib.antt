@@ -3,4 +3,3 @@ pub mod Begins
 pub mod Word
 pub mod Lines
 pub mod Examples
-pub mod EditedLength

@@ -5,7 +5,6 @@ use Prim.Native.Nat.{ℕ, _+_, _-_, _*_, _≤_, _<_}
 use native.Mathlib.Omega.{arith}
 use lib.ListN.{length, take, drop, length-append, length-drop}
 use lib.Seq.{length-take-le}
-use Rattle.rows.specs.Row.{written}
 use Rattle.rows.proofs.Wrote.{Wrote, wrote-part, wrote-room}
 use Rattle.scan.specs.Group.{NextGroup}
 use Rattle.scan.proofs.Next.{groups-start}
@@ -73,10 +72,9 @@ listing-length s =
     let rest = lines s (suffixGroups s 0) in
     ap length (listing-parts s) ∙ length-append header rest ∙ ap (λ n. n + length rest) length-header
 
-pub listing-put : (s d : List ℕ) {b b′ : List ℕ} {n m : ℕ} → length (listingText s) ≤ length d → Puts header 0 d b n
-    → Puts (lines s (suffixGroups s 0)) n b b′ m → b′ ≡ written (listingText s) d
-listing-put s d h p q =
-    puts-then p q (omega (arith, listing-length s, length-header)) .leaves ∙ ap (λ text. written text d) (sym (listing-parts s))
+pub listing-put : (s d : List ℕ) {b b′ : List ℕ} {n m : ℕ} → Room (listingText s) 0 d → Puts header 0 d b n
+    → Puts (lines s (suffixGroups s 0)) n b b′ m → Puts (listingText s) 0 d b′ m
+listing-put s d h p q = rw (listing-parts s) (puts-then p q (omega (arith, listing-length s, length-header)))
 
 -- the refusal line
 pub refusal-parts : (number : ℕ) → length (refusalText number) ≡ 8 + length (decimal number) + 2

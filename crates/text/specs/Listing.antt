@@ -4,9 +4,9 @@ use mathlib.Core.Path.{_≡_}
 use Prim.Native.Nat.{ℕ, zero, suc}
 use lib.ListN.{length, take, drop}
 use Rattle.rows.specs.Row.{written}
-use Rattle.words.specs.Factors.{factors, Group, groupsFrom}
+use Rattle.words.specs.Factors.{Group}
 use Rattle.words.specs.Tables.{groups}
-use Rattle.words.specs.Edit.{edited, place, kept, resume, middleGroups}
+use Rattle.words.specs.Edit.{edited}
 use Rattle.decimal.specs.Decimal.{codes, decimal}
 use Rattle.text.specs.Hexadecimal.{hexadecimal}
 
@@ -33,19 +33,9 @@ lines t (g ∷ gs) = line (g .start) (g .size) (g .power) (take (g .size) (drop 
 unfoldable pub listingText : List ℕ → List ℕ
 listingText s = header ++ lines s (groups s)
 
--- The edited listing: kept, middle and resumed factors, each part grouped on its own; starts are places in the edited pattern.
-unfoldable pub keptGroups : List ℕ → ℕ → ℕ → List ℕ → List Group
-keptGroups s from to b = groupsFrom 0 (take (kept s from to b) (factors s))
-
-unfoldable pub resumedGroups : List ℕ → ℕ → ℕ → List ℕ → List Group
-resumedGroups s from to b =
-    let p = resume s from to b in
-    groupsFrom (place from to b p) (factors (drop p s))
-
-unfoldable pub editedText : List ℕ → ℕ → ℕ → List ℕ → List ℕ
-editedText s from to b =
-    let t = edited s from to b in
-    header ++ lines t (keptGroups s from to b) ++ lines t (middleGroups s from to b) ++ lines t (resumedGroups s from to b)
+-- The edited listing: that of the whole edited pattern.
+abbrev pub editedText : List ℕ → ℕ → ℕ → List ℕ → List ℕ
+editedText s from to b = listingText (edited s from to b)
 
 -- All that is printed where a refusal holds.
 unfoldable pub refusalText : ℕ → List ℕ

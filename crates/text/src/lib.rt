@@ -8,7 +8,6 @@ use scan::next_group;
 ghost use mathlib.Core.Path.{_≡_};
 ghost use Prim.Native.Nat.{_<_, _≤_};
 ghost use lib.ListN.{length};
-ghost use Rattle.rows.specs.Row.{written};
 ghost use Rattle.words.specs.Tables.{suffixGroups};
 ghost use Rattle.decimal.specs.Decimal.{decimal};
 ghost use Rattle.text.specs.Hexadecimal.{hexadecimal};
@@ -50,7 +49,7 @@ fn write_field(n: usize, buffer: &mut [u8], at: usize) -> usize
 }
 
 // Writes the line of a group whose factors are this word.
-pub fn write_line(start: usize, power: usize, word: &[u8], buffer: &mut [u8], at: usize) -> usize
+fn write_line(start: usize, power: usize, word: &[u8], buffer: &mut [u8], at: usize) -> usize
     requires { ⌜ Room (line start (length (now word)) power (now word)) at (now buffer) ⌝ }
     ensures { λ r. ⌜ Puts (line start (length (now (word .entry))) power (now (word .entry))) at (now (buffer .entry)) (now (buffer .exit)) r ⌝ }
 {
@@ -103,7 +102,7 @@ fn lines_length(s: &[u8], from: usize) -> usize
 }
 
 // Writes the header to the front of the buffer.
-pub fn write_header(buffer: &mut [u8]) -> usize
+fn write_header(buffer: &mut [u8]) -> usize
     requires { ⌜ Room header 0 (now buffer) ⌝ }
     ensures { λ r. ⌜ Puts header 0 (now (buffer .entry)) (now (buffer .exit)) r ⌝ }
 {
@@ -118,13 +117,13 @@ pub fn listing_length(s: &[u8]) -> usize
     HEADER.len() + lines_length(s, 0)
 }
 
-// Writes a pattern's listing to the front of the buffer.
-pub fn write_text(s: &[u8], buffer: &mut [u8])
-    requires { ⌜ length (listingText (now s)) ≤ length (now buffer) ⌝ }
-    ensures { λ _. ⌜ now (buffer .exit) ≡ written (listingText (now (s .entry))) (now (buffer .entry)) ⌝ }
+// Writes a pattern's listing to the front of the buffer, and answers its length.
+pub fn write_text(s: &[u8], buffer: &mut [u8]) -> usize
+    requires { ⌜ Room (listingText (now s)) 0 (now buffer) ⌝ }
+    ensures { λ r. ⌜ Puts (listingText (now (s .entry))) 0 (now (buffer .entry)) (now (buffer .exit)) r ⌝ }
 {
     let at = write_header(buffer);
-    write_lines(s, 0, buffer, at);
+    write_lines(s, 0, buffer, at)
 }
 
 // Writes all that is printed for a refusal to the front of the buffer.

@@ -167,7 +167,7 @@ module _ (s : List ℕ) (from to : ℕ) (b : List ℕ) (h : from ≤ to) (k : to
   pub resume-first : place from to b (resume s from to b) ≡ startAt (factors (edited s from to b)) (resumeFactor s from to b)
   resume-first = omega (arith, resume-is, starts-after)
 
-  pub resume-rest : drop (resume s from to b) s ≡ drop (place from to b (resume s from to b)) (edited s from to b)
+  resume-rest : drop (resume s from to b) s ≡ drop (place from to b (resume s from to b)) (edited s from to b)
   resume-rest = sym (edited-rest (resume s from to b) (omega (arith, resume-is)))
 
   -- E3: the stored ending has the factors of the edited pattern from there on

@@ -9,6 +9,10 @@ use Rattle.words.specs.Factors.{startsWith, Group, withFactor, groupsFro
 use Rattle.words.proofs.Bounded.{true-false}
 use Rattle.words.proofs.Order.{same-true, same-refl}
 
+-- a group by its numbers
+abbrev pub group : ℕ → ℕ → ℕ → Group
+group i l e = record { start = i; size = l; power = e }
+
 -- e equal factors, followed by none more, are one group of power e
 pub groups-repeat : (f : List ℕ) (fs : List (List ℕ)) (i e : ℕ) → startsWith f fs ≡ false → 0 < e
     → groupsFrom i (replicate e f ++ fs) ≡ record { start = i; size = length f; power = e } ∷ groupsFrom (i + e * length f) fs

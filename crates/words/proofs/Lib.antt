@@ -20,6 +20,7 @@ pub mod EditParts
 pub mod Fresh
 pub mod Edit
 pub mod Middle
+pub mod Joined
 pub mod Only
 pub mod Theorems
 pub mod Sheet

@@ -12,7 +12,7 @@ use Rattle.words.specs.Factors.{Factorisation, factors, Group, groupsFro
 use Rattle.words.specs.Tables.{LyndonAt, longestAt, lyndonArray, lastFactor, lastFactors, longest, longestStarts, longestWord, groups}
 use Rattle.words.specs.Rotation.{rotation, leastRotation, UniqueLeast, Repeated, repeated}
 use Rattle.words.specs.Tree.{split, treeNodes, Node}
-use Rattle.words.specs.Edit.{Answer, bits}
+use Rattle.words.specs.Edit.{Answer, edited, middleGroups, bits}
 use Rattle.words.proofs.Answer.{answer}
 use Rattle.words.specs.Demand.{Member, DemandTwo, DemandThree}
 use Rattle.words.proofs.Order.{less-true, true-less}
@@ -29,6 +29,8 @@ use Rattle.words.proofs.UniqueLeast as unique-laws
 use Rattle.words.proofs.Tree as trees
 use Rattle.words.proofs.Fresh as fresh
 use Rattle.words.proofs.Edit as edits
+use Rattle.words.proofs.Joined as joined-laws
+use Rattle.words.proofs.Joined.{joinEqual, keptGroups, resumedGroups}
 use Rattle.words.proofs.Only as only-laws
 
 -- the tests agree with the propositions
@@ -138,3 +140,9 @@ demand-three = edits.demand-three
 pub demand-three-only : (s : List ℕ) (from to : ℕ) (b : List ℕ) → from ≤ to → to ≤ length s → (a : Answer) → DemandThree s from to b a
     → a ≡ answer s from to b
 demand-three-only = only-laws.demand-three-only
+
+-- the seams: the groups of the edited pattern are those of its three parts, each grouped on its own, with equal neighbours joined
+pub seams-joined : (s : List ℕ) (from to : ℕ) (b : List ℕ) → from ≤ to → to ≤ length s
+    → groups (edited s from to b)
+    ≡ joinEqual (edited s from to b) (keptGroups s from to b ++ (middleGroups s from to b ++ resumedGroups s from to b))
+seams-joined = joined-laws.seams-joined

@@ -1,7 +1,8 @@
 -- `edit_core::core` meets its contract: refused by the first of the tests that holds, or filled from the edited pattern.
 use lib.ListN.{length}
 use Rattle.edit.specs.Inner.{roomRefusals}
-use Rattle.edit_core.proofs.Accepted.{fills-first, fills-later, spliced-within, spliced-long, passed-accepted}
+use Rattle.cuts.proofs.Spliced.{spliced-within, spliced-long}
+use Rattle.edit_core.proofs.Accepted.{fills-first, fills-later, passed-accepted}
 use Rattle.edit_refusal.proofs.Passed.{passed-shape}
 use borrow.Author.Needs.{needs}
 use native.Mathlib.Omega.{arith}
@@ -61,15 +62,17 @@ array-share-prefix-t : tie.Need-array-share-prefix-t
 array-share-prefix-t c =
     let test = c .before .before .before in
     let a = test .before .before .before .before .before .before .before .before .args in
-    spliced-within (a .pattern .now) (a .array .now) (a .last .now) (a .from) (a .to) (a .block .now)
-    (test .before .refusal .ensures) (test .if1 .left) _ (c .before .splice .ensures)
+    let shape = passed-shape (a .pattern .now) (a .array .now) (a .last .now) (a .from) (a .to) (a .block .now)
+    (test .before .refusal .ensures) (test .if1 .left) in
+    spliced-within (a .pattern .now) (a .from) (a .to) (a .block .now) (shape .start) (shape .stretch) _ (c .before .splice .ensures)
 
 slice-aggregate-fill : tie.Need-slice-aggregate-fill
 slice-aggregate-fill c =
     let test = c .before .before .before .before in
     let a = test .before .before .before .before .before .before .before .before .args in
-    spliced-long (a .pattern .now) (a .array .now) (a .last .now) (a .from) (a .to) (a .block .now)
-    (test .before .refusal .ensures) (test .if1 .left) _ (c .before .before .splice .ensures)
+    let shape = passed-shape (a .pattern .now) (a .array .now) (a .last .now) (a .from) (a .to) (a .block .now)
+    (test .before .refusal .ensures) (test .if1 .left) in
+    spliced-long (a .pattern .now) (a .from) (a .to) (a .block .now) (shape .start) (shape .stretch) _ (c .before .before .splice .ensures)
 
 fill-requires : tie.Need-fill-requires
 fill-requires c κs =

@@ -1,6 +1,5 @@
 -- `edited::write_answer` meets its contract: the tables are right and the rows long enough, so that only 2, 3 and 4 refuse the edit.
-use native.Mathlib.Omega.{arith}
-use Rattle.edited.proofs.Taken.{taken, text-room}
+use Rattle.edited.proofs.Taken.{taken}
 use Rattle.edited.proofs.Printed.{line-room, refused-output, edited-output}
 use borrow.Author.Needs.{needs}
 use Rattle.edited.proofs.write_answer.Statement.{statement}
@@ -41,11 +40,11 @@ slice-aggregate-edit-numbers-4 c = search needs
 edit-numbers-requires : tie.Need-edit-numbers-requires
 edit-numbers-requires c κs = search needs
 
-enum-known-answer : tie.Need-enum-known-answer
-enum-known-answer c = search needs
-
 enum-told : tie.Need-enum-told
 enum-told c = search needs
+
+enum-told-2 : tie.Need-enum-told-2
+enum-told-2 c = search needs
 
 refusal-of-requires : tie.Need-refusal-of-requires
 refusal-of-requires c κs = search needs
@@ -68,30 +67,24 @@ returns c =
     let a = f .args in
     refused-output (a .pattern .now) (a .from) (a .to) (a .block .now) (f .pre .0) (c .before .before .before .before .before .before .before .before .before .before .before .before .before .before .before .before .before .before .lyndon-array .ensures) (search needs)
     (c .before .before .before .before .before .before .before .before .before .before .before .before .before .before .before .last-factors .ensures) (search needs) (answered .edit-numbers .ensures) (search needs) (search needs)
-    (c .before .before .before .before .before .enum-told .given .1) (c .before .before .before .before .refusal-of .ensures) (c .before .before .write-refusal .ensures)
-
-slice-aggregate-write-edited : tie.Need-slice-aggregate-write-edited
-slice-aggregate-write-edited c = search needs
-
-slice-aggregate-write-edited-2 : tie.Need-slice-aggregate-write-edited-2
-slice-aggregate-write-edited-2 c = search needs
+    (c .before .before .before .before .before .enum-told2 .given .1) (c .before .before .before .before .refusal-of .ensures) (c .before .before .write-refusal .ensures)
 
 write-edited-requires : tie.Need-write-edited-requires
 write-edited-requires c κs =
-    let a = taken (c .before .before .before .before .before .before .before .before .edit-numbers .ensures) (c .before .before .before .before .answer .given .1) in
-    (a, omega (arith, text-room a, c .before .before .before .before .before .before .before .before .before .before .before .before .before .before .before .before .before .before .before .before .before .before .pre .1))
+    let f = c .before .before .before .before .before .before .before .before .before .before .before .before .before .before .before .before .before .before .before in
+    taken (c .before .before .before .before .before .edit-numbers .ensures) (c .before .enum-told .given .1) (f .args .text .now) (f .pre .1)
 
 same-length-2 : tie.Need-same-length-2
 same-length-2 c = search needs
 
 returns-2 : tie.Need-returns-2
 returns-2 c =
-    let answered = c .before .before .before .before .before .before .before .before .before .before .before in
-    let f = c .before .before .before .before .before .before .before .before .before .before .before .before .before .before .before .before .before .before .before .before .before .before .before .before .before in
+    let answered = c .before .before .before .before .before .before .before .before in
+    let f = c .before .before .before .before .before .before .before .before .before .before .before .before .before .before .before .before .before .before .before .before .before .before in
     let a = f .args in
-    edited-output (a .pattern .now) (a .from) (a .to) (a .block .now) (f .pre .0) (c .before .before .before .before .before .before .before .before .before .before .before .before .before .before .before .before .before .before .before .before .lyndon-array .ensures) (search needs)
-    (c .before .before .before .before .before .before .before .before .before .before .before .before .before .before .before .before .before .last-factors .ensures) (search needs) (answered .edit-numbers .ensures) (search needs) (search needs)
-    (c .before .before .before .before .before .before .before .answer .given .1) (c .before .before .write-edited .ensures)
+    edited-output (a .pattern .now) (a .from) (a .to) (a .block .now) (f .pre .0) (c .before .before .before .before .before .before .before .before .before .before .before .before .before .before .before .before .before .lyndon-array .ensures) (search needs)
+    (c .before .before .before .before .before .before .before .before .before .before .before .before .before .before .last-factors .ensures) (search needs) (answered .edit-numbers .ensures) (search needs) (search needs)
+    (c .before .before .before .before .enum-told .given .1) (c .before .before .write-edited .ensures)
 
 pub write-answer-spec : {M : Type 1} → statement M
 write-answer-spec =
@@ -106,15 +99,13 @@ write-answer-spec =
     slice-aggregate-edit-numbers-3
     slice-aggregate-edit-numbers-4
     edit-numbers-requires
-    enum-known-answer
     enum-told
+    enum-told-2
     refusal-of-requires
     cast-write-refusal
     write-refusal-requires
     same-length
     returns
-    slice-aggregate-write-edited
-    slice-aggregate-write-edited-2
     write-edited-requires
     same-length-2
     returns-2)

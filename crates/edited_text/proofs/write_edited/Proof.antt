@@ -1,25 +1,23 @@
--- `edited_text::write_edited` meets its contract: the parts of the spliced pattern are the parts of the edited listing.
-use Rattle.edited_text.proofs.Placed.{splice-fits, spliced-within, spliced-long, spliced, parts-room, writes}
-use Rattle.edited_text.proofs.Handed.{parted}
+-- `edited_text::write_edited` meets its contract: the row holds the edited pattern in its front, and the listing of that is written.
+use native.Mathlib.Omega.{arith}
+use Rattle.cuts.proofs.Spliced.{spliced-within, spliced-long, spliced-edited}
+use Rattle.words.proofs.Edit.{length-edited}
 use borrow.Author.Needs.{needs}
 use Rattle.edited_text.proofs.write_edited.Statement.{statement}
 use Rattle.edited_text.proofs.write_edited.Tie as tie
 use Rattle.edited_text.proofs.write_edited.Reads as reads
 use Rattle.edited_text.proofs.write_edited.Lts as lts
 use Rattle.cuts.proofs.splice.Reads as splice-reads
-use Rattle.edited_text.proofs.joints.Reads as joints-reads
-use Rattle.edited_text.proofs.write_parts.Reads as write-parts-reads
-
-joints-requires : tie.Need-joints-requires
-joints-requires c κs = search needs
+use Rattle.text.proofs.write_text.Reads as write-text-reads
 
 slice-aggregate-splice : tie.Need-slice-aggregate-splice
 slice-aggregate-splice c = search needs
 
 splice-requires : tie.Need-splice-requires
 splice-requires c κs =
-    let a = c .before .before .before .before .before .before .before .pre .0 in
-    (a .start, a .stretch, splice-fits a)
+    let f = c .before .before .before .before in
+    let a = f .args in
+    (f .pre .0, f .pre .1, omega (arith, length-edited (a .pattern .now) (a .from) (a .to) (a .block .now) (f .pre .0) (f .pre .1)))
 
 add-m : tie.Need-add-m
 add-m c = search needs
@@ -31,42 +29,46 @@ add-m-2 : tie.Need-add-m-2
 add-m-2 c = search needs
 
 array-share-prefix-t : tie.Need-array-share-prefix-t
-array-share-prefix-t c = spliced-within (c .before .before .before .before .before .before .before .before .before .pre .0) _ (c .before .splice .ensures)
+array-share-prefix-t c =
+    let f = c .before .before .before .before .before .before in
+    let a = f .args in
+    spliced-within (a .pattern .now) (a .from) (a .to) (a .block .now) (f .pre .0) (f .pre .1) _ (c .before .splice .ensures)
 
-slice-aggregate-write-parts : tie.Need-slice-aggregate-write-parts
-slice-aggregate-write-parts c =
-    let split = c .before .before in
-    spliced-long (split .before .before .before .before .before .before .before .before .pre .0) _ (split .splice .ensures)
+slice-aggregate-write-text : tie.Need-slice-aggregate-write-text
+slice-aggregate-write-text c =
+    let f = c .before .before .before .before .before .before .before in
+    let a = f .args in
+    spliced-long (a .pattern .now) (a .from) (a .to) (a .block .now) (f .pre .0) (f .pre .1) _ (c .before .before .splice .ensures)
 
-write-parts-requires : tie.Need-write-parts-requires
-write-parts-requires c κs =
-    let f = c .before .before .before .before .before .before .before .before .before .before .before in
-    let w = c .before .before .before .splice .ensures in
-    let j = c .before .before .before .before .before .joints .ensures in
-    (parted (f .pre .0) j (spliced (f .pre .0) _ w), parts-room (f .pre .0) _ w j (f .args .buffer .now) (f .pre .1))
+write-text-requires : tie.Need-write-text-requires
+write-text-requires c κs =
+    let f = c .before .before .before .before .before .before .before .before in
+    let a = f .args in
+    let e = spliced-edited (a .pattern .now) (a .from) (a .to) (a .block .now) (f .pre .0) (f .pre .1) _ (c .before .before .before .splice .ensures) in
+    rw e (f .pre .3)
 
 same-length : tie.Need-same-length
 same-length c = search needs
 
 returns : tie.Need-returns
 returns c =
+    let f = c .before .before .before .before .before .before .before .before .before .before .before in
+    let a = f .args in
     let split = c .before .before .before .before .before .before in
-    let joined = split .before .before in
-    let f = joined .before .before .before .before .before .before in
-    writes (f .pre .0) _ (split .splice .ensures) (joined .joints .ensures) (c .before .before .write-parts .ensures)
+    let e = spliced-edited (a .pattern .now) (a .from) (a .to) (a .block .now) (f .pre .0) (f .pre .1) _ (split .splice .ensures) in
+    rw e at (c .before .before .write-text .ensures)
 
 pub write-edited-spec : {M : Type 1} → statement M
 write-edited-spec =
     tie.close
     (tie.spec
-    joints-requires
     slice-aggregate-splice
     splice-requires
     add-m
     sub-m
     add-m-2
     array-share-prefix-t
-    slice-aggregate-write-parts
-    write-parts-requires
+    slice-aggregate-write-text
+    write-text-requires
     same-length
     returns)

@@ -45,7 +45,7 @@ returns-3 c =
     let a = c .before .before .before .before .before .before .before .before .before .args in
     let s = a .pattern .now in
     let fits = not-long s (search needs) (not-short (length (listingText s)) (length (a .text .now)) (omega arith) none) in
-    fills-accepted fits refl (c .before .before .before .before .before .listing-length .ensures) (c .before .before .write-text .ensures)
+    fills-accepted fits refl (c .before .before .before .before .before .listing-length .ensures) (c .before .before .write-text .ensures .leaves)
 
 pub write-listing-spec : {M : Type 1} → statement M
 write-listing-spec =
