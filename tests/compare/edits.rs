@@ -1,7 +1,7 @@
 //! Compares the two calls that answer an edit with what is right.
 use crate::engine::{self, EditAnswer, Given, Group};
 use crate::lent::{Entry, Lent, lengths};
-use crate::right::{Edit, Facts, Right, binary_digits, edit_holds, flat};
+use crate::right::{Edit, Facts, Right, binary_digits, edit_holds, edited, flat};
 use crate::tally::{Tally, brief, show};
 use std::fmt::Debug;
 
@@ -96,6 +96,23 @@ fn bounded(t: &mut Tally, g: &Given, e: &Edit) {
     t.check(e.middle.len() <= most, || format!("{}: {} groups, at most {most}", describe(g), e.middle.len()));
 }
 
+/// The groups of kept, middle and resumed factors, each part on its own, are those of the whole once equal neighbours are joined.
+fn joined(t: &mut Tally, right: &Right, g: &Given, e: &Edit) {
+    let whole = edited(g);
+    let place = g.from + g.block.len() + e.resume - g.to;
+    let end = e.middle.first().map_or(place, |m| usize::from(m.start));
+    let resumed = (right.groups)(&whole[place..]).into_iter().map(|m| Group { start: m.start + place as u16, ..m });
+    let word = |m: &Group| &whole[usize::from(m.start)..usize::from(m.start + m.length)];
+    let mut found: Vec<Group> = Vec::new();
+    for m in (right.groups)(&whole[..end]).into_iter().chain(e.middle.iter().copied()).chain(resumed) {
+        match found.last_mut().filter(|before| word(before) == word(&m)) {
+            Some(before) => before.power += m.power,
+            None => found.push(m),
+        }
+    }
+    t.equal(&found, &(right.groups)(&whole), || format!("{}: the parts joined", describe(g)));
+}
+
 pub fn compare(t: &mut Tally, right: &Right, f: &Facts, g: &Given) {
     let holds = edit_holds(g, f);
     t.edit(holds.none());
@@ -104,5 +121,6 @@ pub fn compare(t: &mut Tally, right: &Right, f: &Facts, g: &Given) {
     }
     let e = (right.edit)(g.pattern, g.from, g.to, g.block);
     bounded(t, g, &e);
+    joined(t, right, g, &e);
     all_rows(t, g, Ok(&e));
 }

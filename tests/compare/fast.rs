@@ -2,7 +2,7 @@
 use crate::engine::Group;
 use crate::right::{Edit, Facts, Right, TREE_LIMIT};
 
-pub const FAST: Right = Right { facts, groups, edit };
+pub const FAST: Right = Right { facts, groups, listing, edit };
 
 /// Duval's algorithm; gives start, factor length and power of each group to `each`.
 fn duval(w: &[u8], mut each: impl FnMut(usize, usize, usize)) {

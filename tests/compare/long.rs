@@ -7,7 +7,7 @@ use crate::fast::FAST;
 use crate::right::Facts;
 use crate::tally::{Random, Tally};
 
-fn stretches(r: &mut Random, n: usize) -> Vec<(usize, usize)> {
+pub fn stretches(r: &mut Random, n: usize) -> Vec<(usize, usize)> {
     let mut all = vec![(0, 0), (0, 1), (0, n), (n / 2, n / 2 + 1), (n - 1, n), (n, n)];
     for _ in 0..4 {
         let from = r.below(n + 1);
@@ -19,7 +19,7 @@ fn stretches(r: &mut Random, n: usize) -> Vec<(usize, usize)> {
 }
 
 /// A byte of the word, a part of it, or random bytes; the longest has 256.
-fn block(r: &mut Random, w: &[u8]) -> Vec<u8> {
+pub fn block(r: &mut Random, w: &[u8]) -> Vec<u8> {
     match r.below(5) {
         0 => vec![],
         1 => vec![w[r.below(w.len())]],

@@ -1,4 +1,5 @@
-//! Compares every function of the two archives with a program written from the definitions alone, and prints what it ran.
+//! Compares every function of the two archives, and what the program `edited` prints, with a program written from the definitions alone, and
+//! prints what it ran.
 //! The first argument is the seed of the random words. A failed case is printed; the last line counts the parts.
 mod block_oracle;
 mod blocks;
@@ -9,6 +10,7 @@ mod engine;
 mod families;
 mod fast;
 mod lent;
+mod listed;
 mod long;
 mod loops;
 mod oracle;
@@ -62,5 +64,11 @@ fn main() -> ExitCode {
     run.part("definite length blocks with every header, cut at every place and damaged", |t| blocks::headers(t, r));
     run.part("random definite length blocks, whole, cut and damaged", |t| blocks::random(t, r, 4_000));
     run.part("patterns of every length written as blocks and read again", |t| blocks::lengths(t, r));
+    run.part("the edited listing: every edit of every two-letter word to length 4, blocks to length 2", |t| listed::short(t, TWO, 4, 2));
+    run.part("the edited listing: every edit of a Lyndon word over and over, with itself put in", |t| listed::seams(t, TWO, 3));
+    run.part("the edited listing of random words to 70 bytes", |t| listed::random(t, r, 1_000));
+    for n in [4095, 4096, 4097] {
+        run.part(&format!("the edited listing of ten families of {n} bytes"), |t| listed::words(t, r, n));
+    }
     if run.finish() { ExitCode::SUCCESS } else { ExitCode::FAILURE }
 }

@@ -2,7 +2,7 @@
 use crate::engine::Group;
 use crate::right::{Edit, Facts, Right, TREE_LIMIT};
 
-pub const NAIVE: Right = Right { facts, groups: groups_of, edit };
+pub const NAIVE: Right = Right { facts, groups: groups_of, listing, edit };
 
 /// A factor of a pattern: start and length.
 type Factor = (usize, usize);

@@ -35,6 +35,7 @@ pub struct Edit {
 pub struct Right {
     pub facts: fn(&[u8]) -> Facts,
     pub groups: fn(&[u8]) -> Vec<Group>,
+    pub listing: fn(&[u8]) -> Vec<u8>,
     pub edit: fn(&[u8], usize, usize, &[u8]) -> Edit,
 }
 
@@ -85,19 +86,25 @@ pub fn part_holds(n: usize, position: usize, table: &[u16], right: &[u16]) -> Ho
     pattern_holds(n).and(2, position > n).and(5, wrong_table(table, right))
 }
 
-/// The length of what an edit makes: up to `from`, the block, from `to` on.
+/// The length of what an edit makes, whatever its positions.
 fn edited_length(g: &Given) -> usize {
     let n = g.pattern.len();
     g.from.min(n) + g.block.len() + n.saturating_sub(g.to)
 }
 
-pub fn edit_holds(g: &Given, facts: &Facts) -> Holds {
+/// Up to `from`, the block, from `to` on.
+pub fn edited(g: &Given) -> Vec<u8> {
+    [&g.pattern[..g.from], g.block, &g.pattern[g.to..]].concat()
+}
+
+/// Those of an edit that do not concern its tables and rows.
+pub fn shape_holds(g: &Given) -> Holds {
     let n = g.pattern.len();
-    pattern_holds(n)
-        .and(2, g.from > g.to || g.to > n)
-        .and(3, g.block.len() > BLOCK_LIMIT)
-        .and(4, edited_length(g) > LIMIT)
-        .and(5, wrong_table(g.array, &facts.array) || wrong_table(g.last, &facts.last))
+    pattern_holds(n).and(2, g.from > g.to || g.to > n).and(3, g.block.len() > BLOCK_LIMIT).and(4, edited_length(g) > LIMIT)
+}
+
+pub fn edit_holds(g: &Given, facts: &Facts) -> Holds {
+    shape_holds(g).and(5, wrong_table(g.array, &facts.array) || wrong_table(g.last, &facts.last))
 }
 
 /// The smallest d for which `from` is below 2 to the power d.

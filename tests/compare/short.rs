@@ -98,7 +98,7 @@ fn copying_itself(r: &mut Random, letters: &[u8], length: usize) -> Vec<u8> {
     w
 }
 
-fn random_word(r: &mut Random) -> Vec<u8> {
+pub fn random_word(r: &mut Random) -> Vec<u8> {
     let all: Vec<u8> = (0..=255).collect();
     let length = r.below(71);
     let letters: &[u8] = [&[0x7F, 0x80][..], &[0, 0x7F, 0xFF], &[0x61, 0x62, 0x63, 0x64], &all][r.below(4)];
@@ -110,7 +110,7 @@ fn random_word(r: &mut Random) -> Vec<u8> {
 }
 
 /// A part of the word, letters of it, or any bytes.
-fn random_block(r: &mut Random, w: &[u8]) -> Vec<u8> {
+pub fn random_block(r: &mut Random, w: &[u8]) -> Vec<u8> {
     let size = if r.below(20) == 0 { r.below(71) } else { r.below(7) };
     if w.is_empty() || r.below(6) == 0 {
         return r.bytes(size);
@@ -123,7 +123,7 @@ fn random_block(r: &mut Random, w: &[u8]) -> Vec<u8> {
 }
 
 /// Mostly from a place to one at or behind it; the places run one past the end.
-fn random_stretch(r: &mut Random, n: usize) -> (usize, usize) {
+pub fn random_stretch(r: &mut Random, n: usize) -> (usize, usize) {
     let (a, b) = (r.below(n + 1), r.below(n + 1));
     match r.below(20) {
         0 => (b, r.below(n + 2)),
