@@ -8,9 +8,12 @@ use std::fmt::Debug;
 /// What an edit is to answer: a refusal's number, or the answer.
 pub type Want<'a> = Result<&'a Edit, u8>;
 
+pub fn change(g: &Given) -> String {
+    format!("edit of {} from {} to {}, block {}", show(g.pattern), g.from, g.to, show(g.block))
+}
+
 pub fn describe(g: &Given) -> String {
-    let tables = (g.array.len(), g.last.len());
-    format!("edit of {} from {} to {}, block {}, tables of {tables:?}", show(g.pattern), g.from, g.to, show(g.block))
+    format!("{}, tables of {:?}", change(g), (g.array.len(), g.last.len()))
 }
 
 fn told(want: Want) -> EditAnswer {
@@ -96,16 +99,27 @@ fn bounded(t: &mut Tally, g: &Given, e: &Edit) {
     t.check(e.middle.len() <= most, || format!("{}: {} groups, at most {most}", describe(g), e.middle.len()));
 }
 
-/// The groups of kept, middle and resumed factors, each part on its own, are those of the whole once equal neighbours are joined.
+/// Kept, middle and resumed factors by their answer, at their places in the edited pattern. Kept ones are groups of one each.
+pub fn parts(right: &Right, g: &Given, e: &Edit) -> [Vec<Group>; 3] {
+    let single = |m: Group| (0..m.power).map(move |k| Group { start: m.start + k * m.length, length: m.length, power: 1 });
+    let kept = (right.groups)(g.pattern).into_iter().flat_map(single).take(e.kept).collect();
+    let place = (g.from + g.block.len() + e.resume - g.to) as u16;
+    let resumed = (right.groups)(&g.pattern[e.resume..]).into_iter().map(|m| Group { start: m.start + place, ..m }).collect();
+    [kept, e.middle.clone(), resumed]
+}
+
+/// Whether two groups of factors of a pattern have the same word.
+pub fn same_word(w: &[u8], a: &Group, b: &Group) -> bool {
+    let word = |m: &Group| &w[usize::from(m.start)..usize::from(m.start + m.length)];
+    word(a) == word(b)
+}
+
+/// With equal neighbours joined, the three parts are the groups of the edited pattern.
 fn joined(t: &mut Tally, right: &Right, g: &Given, e: &Edit) {
-    let whole = edited(g);
-    let place = g.from + g.block.len() + e.resume - g.to;
-    let end = e.middle.first().map_or(place, |m| usize::from(m.start));
-    let resumed = (right.groups)(&whole[place..]).into_iter().map(|m| Group { start: m.start + place as u16, ..m });
-    let word = |m: &Group| &whole[usize::from(m.start)..usize::from(m.start + m.length)];
+    let whole = edited(g.pattern, g.from, g.to, g.block);
     let mut found: Vec<Group> = Vec::new();
-    for m in (right.groups)(&whole[..end]).into_iter().chain(e.middle.iter().copied()).chain(resumed) {
-        match found.last_mut().filter(|before| word(before) == word(&m)) {
+    for m in parts(right, g, e).concat() {
+        match found.last_mut().filter(|before| same_word(&whole, before, &m)) {
             Some(before) => before.power += m.power,
             None => found.push(m),
         }

@@ -1,6 +1,6 @@
 //! The same answers for long words, by other ways than the definitions. Each is compared with the naive one in every run.
 use crate::engine::Group;
-use crate::right::{Edit, Facts, Right, TREE_LIMIT};
+use crate::right::{Edit, Facts, Right, TREE_LIMIT, edited};
 
 pub const FAST: Right = Right { facts, groups, listing, edit };
 
@@ -172,7 +172,7 @@ fn grouped(w: &[u8], bounds: &[usize]) -> Vec<Group> {
 }
 
 fn edit(w: &[u8], from: usize, to: usize, block: &[u8]) -> Edit {
-    let edited = [&w[..from], block, &w[to..]].concat();
+    let edited = edited(w, from, to, block);
     let (old, new) = (ends(w), ends(&edited));
     let kept = old.iter().zip(&new).take_while(|(a, b)| a == b && **a <= from).count();
     let resumed = from + block.len();

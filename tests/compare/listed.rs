@@ -1,10 +1,10 @@
 //! What the program `edited` prints for the files it is given, held to the grouped factors of the whole edited pattern, or to the refusal line.
 //! It is run in a folder of its own, once for each edit.
-use crate::edits::describe;
+use crate::edits::{change, parts, same_word};
 use crate::engine::Given;
 use crate::families::families;
 use crate::fast::FAST;
-use crate::long;
+use crate::long::some_edits;
 use crate::oracle::{NAIVE, is_lyndon};
 use crate::right::{Right, edited, shape_holds};
 use crate::short::{every_word, random_block, random_stretch, random_word};
@@ -16,33 +16,43 @@ use std::{fs, io};
 const PROGRAM: &str = "target/bin/edited";
 const FOLDER: &str = "target/compare/files";
 
-fn printed(g: &Given) -> io::Result<Vec<u8>> {
+/// What the program prints, and whether it ends well.
+fn printed(g: &Given) -> io::Result<(Vec<u8>, bool)> {
     let csv = format!("from,to\r\n{},{}\r\n", g.from, g.to);
     fs::create_dir_all(FOLDER)?;
     for (name, content) in [("pattern.bin", g.pattern), ("block.bin", g.block), ("edit.csv", csv.as_bytes())] {
         fs::write(Path::new(FOLDER).join(name), content)?;
     }
-    Ok(Command::new(fs::canonicalize(PROGRAM)?).current_dir(FOLDER).stdin(Stdio::null()).output()?.stdout)
+    let done = Command::new(fs::canonicalize(PROGRAM)?).current_dir(FOLDER).stdin(Stdio::null()).output()?;
+    Ok((done.stdout, done.status.success()))
 }
 
-/// One edit; the program makes the tables itself.
-fn compare(t: &mut Tally, right: &Right, pattern: &[u8], from: usize, to: usize, block: &[u8]) {
-    let g = Given { pattern, array: &[], last: &[], from, to, block };
-    let holds = shape_holds(&g);
+/// One edit; the program makes the tables itself. Whether it is accepted.
+fn compare(t: &mut Tally, right: &Right, g: &Given) -> bool {
+    let holds = shape_holds(g);
     t.edit(holds.none());
-    let want = if holds.none() { (right.listing)(&edited(&g)) } else { format!("refused,{}\r\n", holds.first()).into_bytes() };
-    let got = printed(&g).expect("the program runs, and its files can be written");
+    let listing = || (right.listing)(&edited(g.pattern, g.from, g.to, g.block));
+    let want = if holds.none() { listing() } else { format!("refused,{}\r\n", holds.first()).into_bytes() };
+    let (got, well) = printed(g).expect("the program can be run and its files written");
     let text = |bytes: &[u8]| String::from_utf8_lossy(&bytes[..bytes.len().min(200)]).into_owned();
-    t.check(got == want, || format!("{}: printed {:?}, want {:?}", describe(&g), text(&got), text(&want)));
+    t.check(well && got == want, || format!("{}: printed {:?}, want {:?}", change(g), text(&got), text(&want)));
+    holds.none()
 }
 
-/// Every stretch, one past the end too, and every block.
-fn every_edit(t: &mut Tally, w: &[u8], blocks: &[Vec<u8>]) {
+fn given<'a>(pattern: &'a [u8], from: usize, to: usize, block: &'a [u8]) -> Given<'a> {
+    Given { pattern, array: &[], last: &[], from, to, block }
+}
+
+/// Every stretch, also those past the end and from its end to its start, and every block. Each edit that is accepted goes to `each`.
+fn every_edit(t: &mut Tally, w: &[u8], blocks: &[Vec<u8>], mut each: impl FnMut(&Given)) {
     t.words += 1;
-    for to in 0..=w.len() + 1 {
-        for from in 0..=to {
+    for from in 0..=w.len() + 1 {
+        for to in 0..=w.len() + 1 {
             for block in blocks {
-                compare(t, &NAIVE, w, from, to, block);
+                let g = given(w, from, to, block);
+                if compare(t, &NAIVE, &g) {
+                    each(&g);
+                }
             }
         }
     }
@@ -50,18 +60,35 @@ fn every_edit(t: &mut Tally, w: &[u8], blocks: &[Vec<u8>]) {
 
 pub fn short(t: &mut Tally, letters: &[u8], length: usize, block_length: usize) {
     for w in every_word(letters, length) {
-        every_edit(t, &w, &every_word(letters, block_length));
+        every_edit(t, &w, &every_word(letters, block_length), |_| ());
     }
 }
 
-/// A Lyndon word over and over, with itself put in and parts of it taken out: equal words at one seam, at both, through an empty middle.
+/// Where equal words meet: at the first seam, at the second, and from kept to resumed factors where the middle is empty.
+fn meetings(g: &Given) -> [bool; 3] {
+    let e = (NAIVE.edit)(g.pattern, g.from, g.to, g.block);
+    let whole = edited(g.pattern, g.from, g.to, g.block);
+    let [kept, middle, resumed] = parts(&NAIVE, g, &e);
+    let meet = |a: Option<_>, b: Option<_>| a.zip(b).is_some_and(|(a, b)| same_word(&whole, a, b));
+    let through = middle.is_empty() && meet(kept.last(), resumed.first());
+    [meet(kept.last(), middle.first()), meet(middle.last(), resumed.first()), through]
+}
+
+/// A Lyndon word over and over, with itself put in and parts taken out. Every kind of meeting must come up, and both seams at once.
 pub fn seams(t: &mut Tally, letters: &[u8], length: usize) {
+    let mut seen = [0; 4];
     for word in every_word(letters, length).iter().filter(|w| is_lyndon(w)) {
         let blocks: Vec<Vec<u8>> = (0..3).map(|k| word.repeat(k)).collect();
         for k in 1..4 {
-            every_edit(t, &word.repeat(k), &blocks);
+            every_edit(t, &word.repeat(k), &blocks, |g| {
+                let [first, second, through] = meetings(g);
+                for (count, met) in seen.iter_mut().zip([first && !second, second && !first, first && second, through]) {
+                    *count += usize::from(met);
+                }
+            });
         }
     }
+    t.check(seen.iter().all(|&count| count > 0), || format!("first seam, second, both, empty middle: {seen:?} edits"));
 }
 
 pub fn random(t: &mut Tally, r: &mut Random, count: usize) {
@@ -69,20 +96,19 @@ pub fn random(t: &mut Tally, r: &mut Random, count: usize) {
         let w = random_word(r);
         t.words += 1;
         let (from, to) = random_stretch(r, w.len());
-        compare(t, &NAIVE, &w, from, to, &random_block(r, &w));
+        compare(t, &NAIVE, &given(&w, from, to, &random_block(r, &w)));
     }
 }
 
-/// Around the longest pattern that is accepted.
+/// The longest patterns that are accepted; a byte more is refused, and so is a block of 257.
 pub fn words(t: &mut Tally, r: &mut Random, n: usize) {
     for (family, w) in families(n, r) {
         t.origin = format!("{family}, {n} bytes: ");
         t.words += 1;
-        for (from, to) in long::stretches(r, n) {
-            let as_long = w[..(to - from).min(256)].to_vec();
-            for block in [long::block(r, &w), as_long] {
-                compare(t, &FAST, &w, from, to, &block);
-            }
+        for (from, to, block) in some_edits(r, &w) {
+            compare(t, &FAST, &given(&w, from, to, &block));
         }
+        compare(t, &FAST, &given(&w, 0, n, &[0; 257]));
+        compare(t, &FAST, &given(&vec![w[0]; 4097], 0, 1, b""));
     }
 }

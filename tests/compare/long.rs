@@ -7,7 +7,7 @@ use crate::fast::FAST;
 use crate::right::Facts;
 use crate::tally::{Random, Tally};
 
-pub fn stretches(r: &mut Random, n: usize) -> Vec<(usize, usize)> {
+fn stretches(r: &mut Random, n: usize) -> Vec<(usize, usize)> {
     let mut all = vec![(0, 0), (0, 1), (0, n), (n / 2, n / 2 + 1), (n - 1, n), (n, n)];
     for _ in 0..4 {
         let from = r.below(n + 1);
@@ -19,7 +19,7 @@ pub fn stretches(r: &mut Random, n: usize) -> Vec<(usize, usize)> {
 }
 
 /// A byte of the word, a part of it, or random bytes; the longest has 256.
-pub fn block(r: &mut Random, w: &[u8]) -> Vec<u8> {
+fn block(r: &mut Random, w: &[u8]) -> Vec<u8> {
     match r.below(5) {
         0 => vec![],
         1 => vec![w[r.below(w.len())]],
@@ -35,12 +35,19 @@ pub fn block(r: &mut Random, w: &[u8]) -> Vec<u8> {
     }
 }
 
-fn long_edits(t: &mut Tally, r: &mut Random, w: &[u8], f: &Facts) {
+/// Edits of a long word: from, to, block.
+pub fn some_edits(r: &mut Random, w: &[u8]) -> Vec<(usize, usize, Vec<u8>)> {
+    let mut all = Vec::new();
     for (from, to) in stretches(r, w.len()) {
-        let as_long = w[..(to - from).min(256)].to_vec();
-        for block in [block(r, w), as_long] {
-            edits::compare(t, &FAST, f, &Given { pattern: w, array: &f.array, last: &f.last, from, to, block: &block });
-        }
+        all.push((from, to, block(r, w)));
+        all.push((from, to, w[..(to - from).min(256)].to_vec()));
+    }
+    all
+}
+
+fn long_edits(t: &mut Tally, r: &mut Random, w: &[u8], f: &Facts) {
+    for (from, to, block) in some_edits(r, w) {
+        edits::compare(t, &FAST, f, &Given { pattern: w, array: &f.array, last: &f.last, from, to, block: &block });
     }
 }
 

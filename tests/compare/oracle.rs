@@ -1,6 +1,6 @@
 //! The definitions, tried out one by one: slow, and right at sight. Nothing here knows how the engine works.
 use crate::engine::Group;
-use crate::right::{Edit, Facts, Right, TREE_LIMIT};
+use crate::right::{Edit, Facts, Right, TREE_LIMIT, edited};
 
 pub const NAIVE: Right = Right { facts, groups: groups_of, listing, edit };
 
@@ -166,7 +166,7 @@ fn kept(w: &[u8], stored: &[Factor], edited: &[u8], fresh: &[Factor], from: usiz
 
 /// The answer to an edit that none of the refusals 1 to 5 concerns.
 fn edit(w: &[u8], from: usize, to: usize, block: &[u8]) -> Edit {
-    let edited = [&w[..from], block, &w[to..]].concat();
+    let edited = edited(w, from, to, block);
     let place = |s: usize| from + block.len() + s - to;
     let fresh = factors(&edited);
     let kept = kept(w, &factors(w), &edited, &fresh, from);

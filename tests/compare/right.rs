@@ -92,12 +92,12 @@ fn edited_length(g: &Given) -> usize {
     g.from.min(n) + g.block.len() + n.saturating_sub(g.to)
 }
 
-/// Up to `from`, the block, from `to` on.
-pub fn edited(g: &Given) -> Vec<u8> {
-    [&g.pattern[..g.from], g.block, &g.pattern[g.to..]].concat()
+/// The edited pattern: the stored one up to `from`, the block, the stored one from `to` on.
+pub fn edited(w: &[u8], from: usize, to: usize, block: &[u8]) -> Vec<u8> {
+    [&w[..from], block, &w[to..]].concat()
 }
 
-/// Those of an edit that do not concern its tables and rows.
+/// The refusals of an edit that concern neither its tables nor its rows.
 pub fn shape_holds(g: &Given) -> Holds {
     let n = g.pattern.len();
     pattern_holds(n).and(2, g.from > g.to || g.to > n).and(3, g.block.len() > BLOCK_LIMIT).and(4, edited_length(g) > LIMIT)

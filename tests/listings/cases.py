@@ -65,9 +65,7 @@ def edited(s, b, csv):
     if len(b) > 256:
         return refused(3)
     e = s[:f] + b + s[t:]
-    if len(e) > 4096:
-        return refused(4)
-    return HEADER + lines(factors(e))
+    return refused(4) if len(e) > 4096 else listing(e)
 
 
 def run(program, stdin, files):

@@ -1,5 +1,5 @@
 // The edited listing, written to a lent buffer: one pass over the edited pattern, so that equal words across the seams of an edit are one
-// group. That the edit is accepted and the buffer long enough is the caller's concern.
+// group. That the edit can be made and the buffer is long enough is the caller's concern.
 use cuts::splice;
 use text::write_text;
 ghost use Prim.Native.Nat.{_≤_};

@@ -33,7 +33,7 @@ lines t (g ∷ gs) = line (g .start) (g .size) (g .power) (take (g .size) (drop 
 unfoldable pub listingText : List ℕ → List ℕ
 listingText s = header ++ lines s (groups s)
 
--- The edited listing: that of the whole edited pattern.
+-- The edited listing: that of the whole edited pattern, so that equal words across the seams of an edit are one group.
 abbrev pub editedText : List ℕ → ℕ → ℕ → List ℕ → List ℕ
 editedText s from to b = listingText (edited s from to b)
 

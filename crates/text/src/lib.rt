@@ -9,7 +9,6 @@ ghost use mathlib.Core.Path.{_≡_};
 ghost use Prim.Native.Nat.{_<_, _≤_};
 ghost use lib.ListN.{length};
 ghost use Rattle.words.specs.Tables.{suffixGroups};
-ghost use Rattle.decimal.specs.Decimal.{decimal};
 ghost use Rattle.text.specs.Hexadecimal.{hexadecimal};
 ghost use Rattle.text.specs.Listing.{header, field, line, lines, listingText, refusalText};
 ghost use Rattle.rows.specs.Written.{Room, Puts};

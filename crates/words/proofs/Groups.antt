@@ -15,7 +15,7 @@ group i l e = record { start = i; size = l; power = e }
 
 -- e equal factors, followed by none more, are one group of power e
 pub groups-repeat : (f : List ℕ) (fs : List (List ℕ)) (i e : ℕ) → startsWith f fs ≡ false → 0 < e
-    → groupsFrom i (replicate e f ++ fs) ≡ record { start = i; size = length f; power = e } ∷ groupsFrom (i + e * length f) fs
+    → groupsFrom i (replicate e f ++ fs) ≡ group i (length f) e ∷ groupsFrom (i + e * length f) fs
 groups-repeat f fs i zero h n = absurd (omega arith)
 groups-repeat f fs i (suc zero) h n =
     let p : i + length f ≡ i + 1 * length f = omega arith in
@@ -28,7 +28,7 @@ groups-repeat f fs i (suc (suc e)) h n =
 pub data Packed : ℕ → List (List ℕ) → List Group → Type 0 where
   none : {i : ℕ} → Packed i [] []
   more : {i : ℕ} (e : ℕ) (f : List ℕ) (fs : List (List ℕ)) {gs : List Group} → 0 < e → startsWith f fs ≡ false → Packed (i + e * length f) fs gs
-      → Packed i (replicate e f ++ fs) (record { start = i; size = length f; power = e } ∷ gs)
+      → Packed i (replicate e f ++ fs) (group i (length f) e ∷ gs)
 
 packed-same : {i j : ℕ} (f : List ℕ) {fs : List (List ℕ)} {gs : List Group} → j ≡ i + length f → startsWith f fs ≡ true → Packed j fs gs
     → Packed i (f ∷ fs) (withFactor true i (length f) gs)

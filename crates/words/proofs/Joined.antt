@@ -11,7 +11,7 @@ use Rattle.words.specs.Order.{same}
 use Rattle.words.specs.Factors.{join, factors, startAt, startsWith, Group, withFactor, groupsFrom}
 use Rattle.words.specs.Tables.{groups}
 use Rattle.words.specs.Edit.{edited, place, kept, resume, middle, middleGroups}
-use Rattle.words.proofs.Factors.{join-factors}
+use Rattle.words.proofs.Factors.{join-append, join-factors}
 use Rattle.words.proofs.Edit.{resumeFactor, kept-first, kept-same, resume-first, middle-is, middle-exact}
 use Rattle.words.proofs.EditParts.{end-part}
 use Rattle.words.proofs.Groups.{group}
@@ -32,45 +32,40 @@ abbrev pub joinEqual : List ℕ → List Group → List Group
 joinEqual t [] = []
 joinEqual t (g ∷ gs) = joinFirst t g (joinEqual t gs)
 
--- Each of the words stands in t at its place, from place i on.
-abbrev Standing : List ℕ → ℕ → List (List ℕ) → Type 0
-Standing t i [] = Unit {0}
-Standing t i (f ∷ fs) = (take (length f) (drop i t) ≡ f) × Standing t (i + length f) fs
+-- strings joined that stand in t from place i on: the others stand where some of them end, and the first at i
+others-stand : (t : List ℕ) (i j : ℕ) (fs gs : List (List ℕ)) → i + length (join fs) ≡ j → drop i t ≡ join (fs ++ gs) → drop j t ≡ join gs
+others-stand t i j fs gs e h =
+    ap (λ k. drop k t) (sym e) ∙ sym (drop-drop (length (join fs)) i t) ∙ ap (drop (length (join fs))) (h ∙ join-append fs gs)
+    ∙ drop-append-seam (join fs) (join gs)
 
-standing : (t : List ℕ) (i : ℕ) (fs : List (List ℕ)) → drop i t ≡ join fs → Standing t i fs
-standing t i [] e = tt
-standing t i (f ∷ fs) e =
-    let rest = sym (drop-drop (length f) i t) ∙ ap (drop (length f)) e ∙ drop-append-seam f (join fs) in
-    (ap (take (length f)) e ∙ take-append-seam f (join fs), standing t (i + length f) fs rest)
+first-stands : (t : List ℕ) (i : ℕ) (f : List ℕ) (fs : List (List ℕ)) → drop i t ≡ f ++ join fs
+    → (take (length f) (drop i t) ≡ f) × (drop (i + length f) t ≡ join fs)
+first-stands t i f fs h =
+    (ap (take (length f)) h ∙ take-append-seam f (join fs), sym (drop-drop (length f) i t) ∙ ap (drop (length f)) h ∙ drop-append-seam f (join fs))
 
-standing-after : (t : List ℕ) (i j : ℕ) (fs gs : List (List ℕ)) → i + length (join fs) ≡ j → Standing t i (fs ++ gs) → Standing t j gs
-standing-after t i j [] gs e h =
-    let n : i ≡ j = omega (arith, e) in
-    rw n at h
-standing-after t i j (f ∷ fs) gs e h = standing-after t (i + length f) j fs gs (omega (arith, e, length-append f (join fs))) (h .1)
+-- the first group of some factors, by its start and size
+with-first : (b : Bool) (i l : ℕ) (gs : List Group) → (e : ℕ) × (hs : List Group) × (withFactor b i l gs ≡ group i l e ∷ hs)
+with-first false i l gs = (1, gs, refl)
+with-first true i l [] = (1, [], refl)
+with-first true i l (g ∷ gs) = (suc (g .power), gs, refl)
 
--- a factor f at i before groups of which the first has the word g
-factor-joined : (t : List ℕ) (i : ℕ) (f g : List ℕ) (h : Group) (hs : List Group) → take (length f) (drop i t) ≡ f → wordOf t h ≡ g
-    → joinFirst t (group i (length f) 1) (h ∷ hs) ≡ withFactor (same f g) i (length f) (h ∷ hs)
-factor-joined t i f g h hs e w = rw (e, w) (go (same f g))
-  where
-    go : (b : Bool) → cond b (group i (length f) (1 + h .power) ∷ hs) (group i (length f) 1 ∷ h ∷ hs) ≡ withFactor b i (length f) (h ∷ hs)
-    go true =
-        let n : 1 + h .power ≡ suc (h .power) = omega arith in
-        rw n refl
-    go false = refl
-
-first-joined : (t : List ℕ) (i : ℕ) (f : List ℕ) (fs : List (List ℕ)) → Standing t i (f ∷ fs)
+-- a factor f at i before the groups of those that follow
+factor-joined : (t : List ℕ) (i : ℕ) (f : List ℕ) (fs : List (List ℕ)) → drop i t ≡ f ++ join fs
     → joinFirst t (group i (length f) 1) (groupsFrom (i + length f) fs) ≡ withFactor (startsWith f fs) i (length f) (groupsFrom (i + length f) fs)
-first-joined t i f [] h = refl
-first-joined t i f (g ∷ fs) h =
-    go (startsWith g fs) (groupsFrom (i + length f + length g) fs)
+factor-joined t i f [] h = refl
+factor-joined t i f (g ∷ fs) h =
+    let (w, r) = first-stands t i f (g ∷ fs) h in
+    let (v, _) = first-stands t (i + length f) g fs r in
+    let (e, hs, q) = with-first (startsWith g fs) (i + length f) (length g) (groupsFrom (i + length f + length g) fs) in
+    rw (q, w, v) (go e hs (same f g))
   where
-    go : (b : Bool) (gs : List Group) → joinFirst t (group i (length f) 1) (withFactor b (i + length f) (length g) gs)
-        ≡ withFactor (same f g) i (length f) (withFactor b (i + length f) (length g) gs)
-    go false gs = factor-joined t i f g _ _ (h .0) (h .1 .0)
-    go true [] = factor-joined t i f g _ _ (h .0) (h .1 .0)
-    go true (k ∷ gs) = factor-joined t i f g _ _ (h .0) (h .1 .0)
+    go : (e : ℕ) (hs : List Group) (b : Bool)
+        → cond b (group i (length f) (1 + e) ∷ hs) (group i (length f) 1 ∷ group (i + length f) (length g) e ∷ hs)
+        ≡ withFactor b i (length f) (group (i + length f) (length g) e ∷ hs)
+    go e hs true =
+        let n : 1 + e ≡ suc e = omega arith in
+        rw n refl
+    go e hs false = refl
 
 -- one more factor in a group, before or after the group is joined with what follows
 more-joined : (t : List ℕ) (i : ℕ) (f : List ℕ) (g : Group) (gs : List Group) → take (length f) (drop i t) ≡ f → wordOf t g ≡ f
@@ -86,34 +81,35 @@ more-joined t i f g (h ∷ hs) e w = rw (e, w) (go (same f (wordOf t h)))
     go false = refl
 
 -- the groups of the factors fs before groups that are those of the factors gs once equal neighbours are joined
-parts-joined : (t : List ℕ) (i j : ℕ) (fs gs : List (List ℕ)) (hs : List Group) → i + length (join fs) ≡ j → Standing t i (fs ++ gs)
+parts-joined : (t : List ℕ) (i j : ℕ) (fs gs : List (List ℕ)) (hs : List Group) → i + length (join fs) ≡ j → drop i t ≡ join (fs ++ gs)
     → joinEqual t hs ≡ groupsFrom j gs → joinEqual t (groupsFrom i fs ++ hs) ≡ groupsFrom i (fs ++ gs)
 parts-joined t i j [] gs hs n h e =
     let m : j ≡ i = omega (arith, n) in
     rw m at e
 parts-joined t i j (f ∷ []) gs hs n h e =
     let m : j ≡ i + length f = omega (arith, n, length-append f []) in
-    ap (joinFirst t (group i (length f) 1)) (rw m at e) ∙ first-joined t i f gs h
+    ap (joinFirst t (group i (length f) 1)) (rw m at e) ∙ factor-joined t i f gs h
 parts-joined t i j (f ∷ k ∷ fs) gs hs n h e =
-    go (same f k) refl (parts-joined t (i + length f) j (k ∷ fs) gs hs (omega (arith, n, length-append f (k ++ join fs))) (h .1) e)
+    let (w, r) = first-stands t i f (k ∷ fs ++ gs) h in
+    let (v, _) = first-stands t (i + length f) k (fs ++ gs) r in
+    go w v (same f k) refl (parts-joined t (i + length f) j (k ∷ fs) gs hs (omega (arith, n, length-append f (k ++ join fs))) r e)
   where
-    again : (b : Bool) (ks : List Group) → f ≡ k → joinEqual t (withFactor true i (length f) (withFactor b (i + length f) (length k) ks) ++ hs)
-        ≡ withFactor true i (length f) (joinEqual t (withFactor b (i + length f) (length k) ks ++ hs))
-    again false ks q = more-joined t i f (group (i + length f) (length k) 1) (joinEqual t (ks ++ hs)) (h .0) (h .1 .0 ∙ sym q)
-    again true [] q = more-joined t i f (group (i + length f) (length k) 1) (joinEqual t hs) (h .0) (h .1 .0 ∙ sym q)
-    again true (g ∷ ks) q = more-joined t i f (group (i + length f) (length k) (suc (g .power))) (joinEqual t (ks ++ hs)) (h .0) (h .1 .0 ∙ sym q)
-
-    go : (b : Bool) → same f k ≡ b → joinEqual t (groupsFrom (i + length f) (k ∷ fs) ++ hs) ≡ groupsFrom (i + length f) (k ∷ fs ++ gs)
+    go : take (length f) (drop i t) ≡ f → take (length k) (drop (i + length f) t) ≡ k → (b : Bool) → same f k ≡ b
+        → joinEqual t (groupsFrom (i + length f) (k ∷ fs) ++ hs) ≡ groupsFrom (i + length f) (k ∷ fs ++ gs)
         → joinEqual t (withFactor b i (length f) (groupsFrom (i + length f) (k ∷ fs)) ++ hs)
         ≡ withFactor b i (length f) (groupsFrom (i + length f) (k ∷ fs ++ gs))
-    go true q p =
-        again (startsWith k fs) (groupsFrom (i + length f + length k) fs) (same-true f k q) ∙ ap (withFactor true i (length f)) p
-    go false q p =
-        ap (joinFirst t (group i (length f) 1)) p ∙ first-joined t i f (k ∷ fs ++ gs) h
+    go w v true q p =
+        let old = groupsFrom (i + length f) (k ∷ fs) in
+        let (a, ks, z) = with-first (startsWith k fs) (i + length f) (length k) (groupsFrom (i + length f + length k) fs) in
+        let more : joinEqual t (withFactor true i (length f) old ++ hs) ≡ withFactor true i (length f) (joinEqual t (old ++ hs)) =
+        rw z (more-joined t i f (group (i + length f) (length k) a) (joinEqual t (ks ++ hs)) w (v ∙ sym (same-true f k q))) in
+        more ∙ ap (withFactor true i (length f)) p
+    go w v false q p =
+        ap (joinFirst t (group i (length f) 1)) p ∙ factor-joined t i f (k ∷ fs ++ gs) h
         ∙ ap (λ b. withFactor b i (length f) (groupsFrom (i + length f) (k ∷ fs ++ gs))) q
 
 -- the groups of factors have no equal neighbours
-groups-joined : (t : List ℕ) (i : ℕ) (fs : List (List ℕ)) → Standing t i fs → joinEqual t (groupsFrom i fs) ≡ groupsFrom i fs
+groups-joined : (t : List ℕ) (i : ℕ) (fs : List (List ℕ)) → drop i t ≡ join fs → joinEqual t (groupsFrom i fs) ≡ groupsFrom i fs
 groups-joined t i fs h =
     let e = append-nil fs in
     rw (append-nil (groupsFrom i fs), e) at (parts-joined t i (i + length (join fs)) fs [] [] refl (rw (sym e) at h) refl)
@@ -150,9 +146,10 @@ module _ (s : List ℕ) (from to : ℕ) (b : List ℕ) (h : from ≤ to) (l : to
       let q = place from to b (resume s from to b) in
       let mid = middle s from to b in
       let whole = middle-exact s from to b h l in
-      let one : Standing t 0 (first ++ (mid ++ last)) = standing t 0 (first ++ (mid ++ last)) (sym (ap join whole ∙ join-factors t)) in
-      let two : Standing t i (mid ++ last) = standing-after t 0 i first (mid ++ last) (omega arith) one in
-      let ending = groups-joined t q last (standing-after t i q mid last middle-end two) in
+      let one = sym (ap join whole ∙ join-factors t) in
+      let two = others-stand t 0 i first (mid ++ last) (omega arith) one in
+      let three = others-stand t i q mid last middle-end two in
+      let ending = groups-joined t q last three in
       let later = parts-joined t i q mid last (groupsFrom q last) middle-end two ending in
       let all = parts-joined t 0 i first (mid ++ last) (groupsFrom i mid ++ groupsFrom q last) (omega arith) one later in
       ap (groupsFrom 0) (sym whole) ∙ sym all

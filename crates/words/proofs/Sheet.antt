@@ -2,7 +2,7 @@
 -- A second table holds the other facts of the paper about single words, a third equal words at the seams of an edit. A letter stands for its
 -- ASCII code.
 use mathlib.Core.Bool.{Bool, true, false}
-use mathlib.Core.List.{List, [], _∷_}
+use mathlib.Core.List.{List, [], _∷_, _++_}
 use mathlib.Core.Path.{_≡_, refl}
 use Prim.Native.Nat.{ℕ}
 use lib.ListN.{length}
@@ -14,7 +14,7 @@ use Rattle.words.specs.Tree.{treeNodes, nodeNumbers, split}
 use Rattle.words.specs.Edit.{edited, kept, keptOf, resume, middle, middleOf, middleGroups, bits}
 use Rattle.words.proofs.Answer.{answer}
 use Rattle.words.proofs.Groups.{group}
-use Rattle.words.proofs.Joined.{keptGroups, resumedGroups}
+use Rattle.words.proofs.Joined.{joinEqual, keptGroups, resumedGroups}
 
 pub data Row : Type 0 where
   -- a pattern: its factors, the longest length, and all starts
@@ -35,7 +35,8 @@ pub data Row : Type 0 where
   tree : List ℕ → List ℕ → Row
   -- a pattern and its groups
   grouped : List ℕ → List Group → Row
-  -- an edit (pattern, from, to, block): the groups of kept, middle and resumed factors, each part on its own, and those of the whole
+  -- an edit (pattern, from, to, block): the groups of kept, middle and resumed factors, each part grouped on its own, and those of the whole, which
+  -- are these with equal neighbours joined
   seams : List ℕ → ℕ → ℕ → List ℕ → List Group → List Group → List Group → List Group → Row
   -- a number and how many binary digits it has
   digits : ℕ → ℕ → Row
@@ -52,7 +53,8 @@ Holds (ended s row) = lastFactors s ≡ row
 Holds (tree w row) = nodeNumbers (treeNodes 0 w) ≡ row
 Holds (grouped s gs) = groups s ≡ gs
 Holds (seams s from to b first mid last gs) =
-    (keptGroups s from to b ≡ first) × (middleGroups s from to b ≡ mid) × (resumedGroups s from to b ≡ last) × (groups (edited s from to b) ≡ gs)
+    (keptGroups s from to b ≡ first) × (middleGroups s from to b ≡ mid) × (resumedGroups s from to b ≡ last)
+    × (groups (edited s from to b) ≡ gs) × (joinEqual (edited s from to b) (first ++ (mid ++ last)) ≡ gs)
 Holds (digits m d) = bits m ≡ d
 
 abbrev pub Hold : List Row → Type 0
@@ -124,17 +126,18 @@ pub facts-hold : Hold facts
 unfolding factors longest longestStarts lyndonStarts leastRotation repeated groups bits
 facts-hold = ((refl, refl, refl), ((refl, refl, refl), (refl, (refl, (refl, (refl, (refl, (refl, (refl, (refl, (refl, (refl, (refl, (refl, (refl, tt)))))))))))))))
 
--- Equal words at the seams of an edit: at the first, at the second, at both (P12), through an empty middle; and at neither, though the words are
--- of equal length.
+-- Equal words at the seams of an edit: at the first, at the second, at both (P12, and groups of two words each), through an empty middle; and at
+-- neither, though the words are of equal length.
 abbrev pub seamFacts : List Row
 seamFacts =
     seams (a ∷ b ∷ a ∷ []) 2 2 (a ∷ b ∷ []) (group 0 2 1 ∷ []) (group 2 2 1 ∷ []) (group 4 1 1 ∷ []) (group 0 2 2 ∷ group 4 1 1 ∷ [])
     ∷ seams (b ∷ a ∷ b ∷ []) 1 1 (a ∷ b ∷ []) (group 0 1 1 ∷ []) (group 1 2 1 ∷ []) (group 3 2 1 ∷ []) (group 0 1 1 ∷ group 1 2 2 ∷ [])
     ∷ seams (a ∷ a ∷ []) 1 1 (a ∷ []) (group 0 1 1 ∷ []) (group 1 1 1 ∷ []) (group 2 1 1 ∷ []) (group 0 1 3 ∷ [])
+    ∷ seams (a ∷ a ∷ a ∷ a ∷ []) 2 2 (a ∷ a ∷ []) (group 0 1 2 ∷ []) (group 2 1 2 ∷ []) (group 4 1 2 ∷ []) (group 0 1 6 ∷ [])
     ∷ seams (a ∷ b ∷ a ∷ a ∷ a ∷ b ∷ []) 2 4 [] (group 0 2 1 ∷ []) [] (group 2 2 1 ∷ []) (group 0 2 2 ∷ [])
     ∷ seams (c ∷ a ∷ []) 1 1 (b ∷ []) (group 0 1 1 ∷ []) (group 1 1 1 ∷ []) (group 2 1 1 ∷ []) (group 0 1 1 ∷ group 1 1 1 ∷ group 2 1 1 ∷ [])
     ∷ []
 
 pub seam-facts-hold : Hold seamFacts
 unfolding factors edited kept keptOf resume middle middleOf middleGroups groups
-seam-facts-hold = ((refl, refl, refl, refl), ((refl, refl, refl, refl), ((refl, refl, refl, refl), ((refl, refl, refl, refl), ((refl, refl, refl, refl), tt)))))
+seam-facts-hold = ((refl, refl, refl, refl, refl), ((refl, refl, refl, refl, refl), ((refl, refl, refl, refl, refl), ((refl, refl, refl, refl, refl), ((refl, refl, refl, refl, refl), ((refl, refl, refl, refl, refl), tt))))))

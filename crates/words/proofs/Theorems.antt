@@ -1,6 +1,6 @@
--- The theorems about the definitions, for the auditor: each is a statement over specs/ and `Answer`, and a citation of its proof.
--- They say that the tests agree with the propositions, that the computed definitions mean what the papers say, and that the owner's
--- demands 2 and 3 hold for all patterns and all edits with from ≤ to ≤ length s.
+-- The theorems about the definitions, for the auditor: each is a statement over specs/ and what Answer and Joined define, and a citation of
+-- its proof. They say that the tests agree with the propositions, that the computed definitions mean what the papers say, and that the owner's
+-- demands 2 and 3 and the law of the seams hold for all patterns and all edits with from ≤ to ≤ length s.
 use mathlib.Core.Bool.{true, false}
 use mathlib.Core.List.{List, [], _∷_, _++_}
 use mathlib.Core.Logic.{_↔_}
