@@ -99,7 +99,7 @@ fn bounded(t: &mut Tally, g: &Given, e: &Edit) {
     t.check(e.middle.len() <= most, || format!("{}: {} groups, at most {most}", describe(g), e.middle.len()));
 }
 
-/// Kept, middle and resumed factors by their answer, at their places in the edited pattern. Kept ones are groups of one each.
+/// The kept, middle and resumed factors that an answer tells, at their places in the edited pattern. Kept ones are groups of one each.
 pub fn parts(right: &Right, g: &Given, e: &Edit) -> [Vec<Group>; 3] {
     let single = |m: Group| (0..m.power).map(move |k| Group { start: m.start + k * m.length, length: m.length, power: 1 });
     let kept = (right.groups)(g.pattern).into_iter().flat_map(single).take(e.kept).collect();

@@ -65,7 +65,9 @@ fn main() -> ExitCode {
     run.part("random definite length blocks, whole, cut and damaged", |t| blocks::random(t, r, 4_000));
     run.part("patterns of every length written as blocks and read again", |t| blocks::lengths(t, r));
     run.part("the edited listing: every edit of every two-letter word to length 4, blocks to length 2", |t| listed::short(t, TWO, 4, 2));
-    run.part("the edited listing: every edit of a Lyndon word over and over, with itself put in", |t| listed::seams(t, TWO, 3));
+    run.part("the edited listing: every edit of every two-letter Lyndon word to length 3, once to three times, with itself put in", |t| {
+        listed::seams(t, TWO, 3)
+    });
     run.part("the edited listing of random words to 70 bytes", |t| listed::random(t, r, 1_000));
     for n in [4095, 4096] {
         run.part(&format!("the edited listing of ten families of {n} bytes"), |t| listed::words(t, r, n));

@@ -32,7 +32,7 @@ abbrev pub joinEqual : List ℕ → List Group → List Group
 joinEqual t [] = []
 joinEqual t (g ∷ gs) = joinFirst t g (joinEqual t gs)
 
--- strings joined that stand in t from place i on: the others stand where some of them end, and the first at i
+-- the strings fs, then gs, stand in t one behind the other from place i on: gs stand where fs end, and the first string stands at i
 others-stand : (t : List ℕ) (i j : ℕ) (fs gs : List (List ℕ)) → i + length (join fs) ≡ j → drop i t ≡ join (fs ++ gs) → drop j t ≡ join gs
 others-stand t i j fs gs e h =
     ap (λ k. drop k t) (sym e) ∙ sym (drop-drop (length (join fs)) i t) ∙ ap (drop (length (join fs))) (h ∙ join-append fs gs)
@@ -49,7 +49,7 @@ with-first false i l gs = (1, gs, refl)
 with-first true i l [] = (1, [], refl)
 with-first true i l (g ∷ gs) = (suc (g .power), gs, refl)
 
--- a factor f at i before the groups of those that follow
+-- a factor f at i, as a group of one, joined to the groups of the factors that follow
 factor-joined : (t : List ℕ) (i : ℕ) (f : List ℕ) (fs : List (List ℕ)) → drop i t ≡ f ++ join fs
     → joinFirst t (group i (length f) 1) (groupsFrom (i + length f) fs) ≡ withFactor (startsWith f fs) i (length f) (groupsFrom (i + length f) fs)
 factor-joined t i f [] h = refl
