@@ -6,7 +6,7 @@ use crate::families::families;
 use crate::fast::FAST;
 use crate::long::some_edits;
 use crate::oracle::{NAIVE, is_lyndon};
-use crate::right::{Right, edited, shape_holds};
+use crate::right::{BLOCK_LIMIT, LIMIT, Right, edited, shape_holds};
 use crate::short::{every_word, random_block, random_stretch, random_word};
 use crate::tally::{Random, Tally};
 use std::path::Path;
@@ -114,8 +114,8 @@ pub fn words(t: &mut Tally, r: &mut Random, n: usize) {
         for (from, to, block) in some_edits(r, &w) {
             compare(t, &FAST, &given(&w, from, to, &block));
         }
-        compare(t, &FAST, &given(&w, 0, n, &[0; 257]));
-        let long: Vec<u8> = w.iter().copied().cycle().take(4097).collect();
+        compare(t, &FAST, &given(&w, 0, n, &[0; BLOCK_LIMIT + 1]));
+        let long: Vec<u8> = w.iter().copied().cycle().take(LIMIT + 1).collect();
         compare(t, &FAST, &given(&long, 0, 1, b""));
     }
 }
