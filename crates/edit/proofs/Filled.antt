@@ -8,20 +8,20 @@ use lib.Dec.{ltb}
 use lib.ListN.{length, take}
 use lib.Seq.{length-take-le}
 use borrow.Author.Tests.{lt-ltb, le-ltb}
-use Rattle.refusals.specs.Refusals.{Refusal, firstOf}
+use Rattle.refusals.specs.Refusals.{Refusal, firstOf, maxPattern, maxBlock}
 use Rattle.rows.specs.Row.{written}
-use Rattle.words.specs.Edit.{edited, place, kept, resume, middleGroups}
+use Rattle.words.specs.Edit.{edited, place, kept, resume, middleGroups, bits}
 use Rattle.words.specs.Factors.{join, factors, startAt, groupNumbers}
 use Rattle.words.specs.Tables.{suffixGroups, longest, longestStarts}
 use Rattle.words.proofs.Edit.{resumeFactor, kept-same, kept-first, resume-first, middle-bound}
 use Rattle.words.proofs.EditParts.{end-grows, end-le}
-use Rattle.words.proofs.Fresh.{bits-least}
+use Rattle.words.proofs.Fresh.{bits-grows}
 use Rattle.words.proofs.Middle.{middle-suffix}
 use Rattle.longest.specs.Best.{longestOf}
 use Rattle.longest.specs.declared.Longest.{Longest}
 use Rattle.seams.proofs.Meets.{edited-short}
 use Rattle.edit.specs.Core.{countsOf}
-use Rattle.edit.specs.Inner.{roomRefusals, FillsNumbers}
+use Rattle.edit.specs.Inner.{maxMiddle, roomRefusals, FillsNumbers}
 use Rattle.seams.specs.Seams.{Accepted, planOf}
 use Rattle.edit.specs.declared.Counts.{Counts}
 use Rattle.edit.specs.declared.Answer.the-variants.{Done, Refused}
@@ -36,6 +36,16 @@ module _ {refusals : List Refusal} {s : List ℕ} {from to : ℕ} {b numbers sta
       → numbers′ ≡ written (groupNumbers (middleGroups s from to b)) numbers → starts′ ≡ written (longestStarts (edited s from to b)) starts
       → FillsNumbers refusals s from to b numbers numbers′ starts starts′ (Done c)
   fills-done e c m p = record { answers = rw e (ap Done c); middle = rw e m; places = rw e p }
+
+-- the bound of demand 3 at the limits
+pub middle-few : (s : List ℕ) (from to : ℕ) (b : List ℕ) → from ≤ to → to ≤ length s → length s ≤ maxPattern → length b ≤ maxBlock
+    → length (middleGroups s from to b) ≤ maxMiddle
+middle-few s from to b h k l m = omega (arith, middle-bound s from to b h k, bits-grows from maxPattern (omega arith))
+
+-- as a number, for the rows of this room
+pub max-middle : maxMiddle ≡ 270
+unfolding bits
+max-middle = refl
 
 counts-same : {k l r u g h n m x y : ℕ} → k ≡ l → r ≡ u → g ≡ h → n ≡ m → x ≡ y
     → _≡_ {A = Counts} (record { kept = k; resume = r; groups = g; length = n; starts = x })
@@ -75,11 +85,6 @@ module _ {s array : List ℕ} {from to : ℕ} {b t : List ℕ} (a : Accepted s a
   groups-are : suffixGroups (take (p .place) t) (p .end) ≡ middleGroups s from to b
   groups-are = rw (placed, ended, a .spliced) (middle-suffix s from to b (a .start) (a .stretch))
 
-  few : length (middleGroups s from to b) ≤ 270
-  few =
-      let digits = bits-least from 13 (omega (arith, a .start, a .stretch, a .pattern)) in
-      omega (arith, middle-bound s from to b (a .start) (a .stretch), digits, a .block)
-
   module _ {n : ℕ} (g : n ≡ length (suffixGroups (take (p .place) t) (p .end))) where
     counted : n ≡ length (middleGroups s from to b)
     counted = g ∙ ap length groups-are
@@ -87,10 +92,10 @@ module _ {s array : List ℕ} {from to : ℕ} {b t : List ℕ} (a : Accepted s a
     groups-pass : {room : ℕ} → n ≤ room → ltb room (length (middleGroups s from to b)) ≡ false
     groups-pass {room} h = le-ltb room (length (middleGroups s from to b)) (omega (arith, counted))
 
-    pub write-groups-asks : {room size : ℕ} → 3 * min room 270 ≤ size → n ≤ room
+    pub write-groups-asks : {room size : ℕ} → 3 * min room maxMiddle ≤ size → n ≤ room
         → (length (take (p .place) t) ≤ 65535) × (p .end ≤ length (take (p .place) t))
         × (3 * length (suffixGroups (take (p .place) t) (p .end)) ≤ size)
-    write-groups-asks h k = (omega (arith, front-long, place-within, edited-short a), end-within, omega (arith, counted, few, g))
+    write-groups-asks h k = (omega (arith, front-long, place-within, edited-short a), end-within, omega (arith, counted, middle-few s from to b (a .start) (a .stretch) (a .pattern) (a .block), g))
 
     module _ {found : Longest} (f : found ≡ longestOf t) where
       listed : found .count ≡ length (longestStarts (edited s from to b))

@@ -4,12 +4,16 @@ use factoring::count_groups;
 use factoring::write_groups;
 use longest::measure;
 use longest::write_starts;
+use refusals::MAX_BLOCK;
 use seams::plan;
 ghost use mathlib.Core.Path.{_≡_};
 ghost use Prim.Native.Nat.{_*_, _≤_, min};
 ghost use lib.ListN.{length};
 ghost use Rattle.seams.specs.Seams.{Accepted};
-ghost use Rattle.edit.specs.Inner.{countOf, roomRefusals, FillsNumbers};
+ghost use Rattle.edit.specs.Inner.{countOf, maxMiddle, roomRefusals, FillsNumbers};
+
+// The most middle groups of an accepted edit: the binary digits of MAX_PATTERN, the longest block, and one.
+pub const MAX_MIDDLE: usize = 13 + MAX_BLOCK + 1;
 
 // What an accepted edit answers beside the two rows: kept, resume, the number of middle groups, the longest length, the number of starts.
 pub struct Counts {
@@ -47,7 +51,7 @@ pub fn fill(
     numbers: &mut [u16],
     starts: &mut [u16],
 ) -> Answer
-    requires { ⌜ Accepted (now pattern) (now table) from to (now block) (now t) × (3 * min room 270 ≤ length (now numbers)) ⌝ }
+    requires { ⌜ Accepted (now pattern) (now table) from to (now block) (now t) × (3 * min room maxMiddle ≤ length (now numbers)) ⌝ }
     ensures { λ r. ⌜ FillsNumbers (roomRefusals (now (pattern .entry)) from to (now (block .entry)) room (length (now (starts .entry)))) (now (pattern .entry)) from to (now (block .entry)) (now (numbers .entry)) (now (numbers .exit)) (now (starts .entry)) (now (starts .exit)) r ⌝ }
 {
     let p = plan(pattern, table, from, to, block, t);

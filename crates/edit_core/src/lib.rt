@@ -4,11 +4,12 @@ use cuts::splice;
 use edit::Answer;
 use edit::fill;
 use edit_refusal::refusal;
+use refusals::MAX_PATTERN;
 ghost use mathlib.Core.List.{_++_};
 ghost use Prim.Native.Nat.{_*_, _≤_, min};
 ghost use lib.ListN.{length};
 ghost use Rattle.refusals.specs.Refusals.{editRefusals};
-ghost use Rattle.edit.specs.Inner.{roomRefusals, FillsNumbers};
+ghost use Rattle.edit.specs.Inner.{maxMiddle, roomRefusals, FillsNumbers};
 
 // The answer to an edit, with room for `room` groups. The groups go to `numbers`, three each.
 pub fn core(
@@ -22,14 +23,14 @@ pub fn core(
     numbers: &mut [u16],
     starts: &mut [u16],
 ) -> Answer
-    requires { ⌜ 3 * min room 270 ≤ length (now numbers) ⌝ }
+    requires { ⌜ 3 * min room maxMiddle ≤ length (now numbers) ⌝ }
     ensures { λ r. ⌜ FillsNumbers (editRefusals (now (pattern .entry)) (now (array .entry)) (now (last .entry)) from to (now (block .entry)) ++ roomRefusals (now (pattern .entry)) from to (now (block .entry)) room (length (now (starts .entry)))) (now (pattern .entry)) from to (now (block .entry)) (now (numbers .entry)) (now (numbers .exit)) (now (starts .entry)) (now (starts .exit)) r ⌝ }
 {
     let number = refusal(pattern, array, last, from, to, block);
     if number != 0 {
         return Answer::Refused(number);
     }
-    let mut t = [0u8; 4096];
+    let mut t = [0u8; MAX_PATTERN];
     splice(pattern, from, to, block, &mut t);
     let m = from + block.len() + (pattern.len() - to);
     fill(

@@ -1,10 +1,11 @@
 -- What is left of an edit that was answered, and of the contents of the three files, is all that is printed.
 use mathlib.Core.List.{List, [], _∷_}
 use mathlib.Core.Path.{_≡_, refl, sym, ap, _∙_}
-use Prim.Native.Nat.{ℕ, zero, suc, _≤_, _<_}
+use Prim.Native.Nat.{ℕ, zero, suc, _*_, _≤_, _<_}
 use native.Mathlib.Omega.{arith}
 use lib.ListN.{length}
 use Rattle.edit.specs.Core.{answerOf, countsOf}
+use Rattle.edit.specs.Inner.{maxMiddle}
 use Rattle.edit.specs.declared.Answer.{Answer}
 use Rattle.edit.specs.declared.Answer.the-variants.{Done, Refused}
 use Rattle.edit.specs.declared.Counts.{Counts}
@@ -18,6 +19,7 @@ use Rattle.refusals.specs.Refusals.{firstOf, maxPattern, noStretch, blockTooLon
 use Rattle.refusals.specs.declared.Filled.{Filled}
 use Rattle.text.proofs.Lines.{refusal-room}
 use Rattle.text.proofs.Begins.{puts-begins}
+use Rattle.text.specs.Inner.{maxListing}
 use Rattle.text.specs.Listing.{editedText, refusalText, printed}
 use Rattle.rows.specs.Written.{Room, Puts}
 use Rattle.words.proofs.Tables.{lyndon-array-length, last-factors-length}
@@ -26,7 +28,7 @@ use Rattle.edited.specs.Output.{editOutput, Prints}
 use Rattle.edited.specs.Refusal.{refusalIn}
 use Rattle.edited.proofs.Settled.{right, settled}
 
-pub line-room : (number : ℕ) (d : List ℕ) → number < 256 → 77849 ≤ length d → Room (refusalText number) 0 d
+pub line-room : (number : ℕ) (d : List ℕ) → number < 256 → maxListing ≤ length d → Room (refusalText number) 0 d
 line-room number d l h = omega (arith, refusal-room number (omega arith))
 
 -- an answer of this number that is a refusal
@@ -39,9 +41,9 @@ line-printed zero c text {r} {k} e q = absurd (omega (arith, ap isDone (sym e �
 line-printed (suc m) c text e q = ap (λ x. refusalText (refusalIn x)) (sym e)
 
 module _ (s : List ℕ) {a₀ array : List ℕ} {ra : Filled} {l₀ last : List ℕ} {rl : Filled} (from to : ℕ) (b : List ℕ) {row row′ starts starts′ : List ℕ}
-    {r : Answer} (h : length s ≤ maxPattern) (made : ArrayMade s a₀ array ra) (array-room : 4096 ≤ length a₀) (made-last : LastFactorsMade s l₀ last rl)
-    (last-room : 4096 ≤ length l₀) (e : EditsNumbers s array last from to b row row′ starts starts′ r) (middle-room : 810 ≤ length row)
-    (starts-room : 4096 ≤ length starts) where
+    {r : Answer} (h : length s ≤ maxPattern) (made : ArrayMade s a₀ array ra) (array-room : maxPattern ≤ length a₀) (made-last : LastFactorsMade s l₀ last rl)
+    (last-room : maxPattern ≤ length l₀) (e : EditsNumbers s array last from to b row row′ starts starts′ r) (middle-room : 3 * maxMiddle ≤ length row)
+    (starts-room : maxPattern ≤ length starts) where
   abbrev number : ℕ
   number = firstOf (noStretch s from to ∷ blockTooLong b ∷ editedTooLong s from to b ∷ [])
 

@@ -2,11 +2,13 @@
 use mathlib.Core.Bool.{Bool, true, false, cond}
 use mathlib.Core.List.{List, [], _∷_, _++_}
 use mathlib.Core.Path.{_≡_, refl, sym, ap, _∙_}
-use Prim.Native.Nat.{ℕ, zero, suc, _+_, _≤_}
+use Prim.Native.Nat.{ℕ, zero, suc, _+_, _*_, _≤_}
 use native.Mathlib.Omega.{arith}
 use lib.ListN.{length, take, drop, length-append}
 use lib.Seq.{take-at}
 use borrow.Author.Tests.{le-ltb}
+use Rattle.edit.proofs.Filled.{middle-few}
+use Rattle.edit.specs.Inner.{maxMiddle}
 use Rattle.edit_refusal.proofs.Passed.{passed-shape}
 use Rattle.refusals.proofs.First.{first-earlier, first-later, First, first-is, first-passes, not-long, not-short, table-right}
 use Rattle.edit_refusal.proofs.Refused.{Shaped}
@@ -15,8 +17,7 @@ use Rattle.refusals.specs.declared.Filled.{Filled}
 use Rattle.refusals.specs.Refusals.{editRefusals, Refusal, firstOf, rowAfter, maxPattern, patternTooLong, noStretch, blockTooLong, editedTooLong, notTable, tooShort}
 use Rattle.scan.proofs.Pass.{length-numbers}
 use Rattle.words.proofs.Bounded.{length-table}
-use Rattle.words.proofs.Edit.{middle-bound, length-edited}
-use Rattle.words.proofs.Fresh.{bits-least}
+use Rattle.words.proofs.Edit.{length-edited}
 use Rattle.words.proofs.Order.{same-refl}
 use Rattle.words.specs.Bounded.{select, table}
 use Rattle.words.specs.Edit.{edited, middleGroups}
@@ -38,7 +39,7 @@ unfolding longestStarts lyndonStarts
 starts-few t = omega (arith, select-few (lyndonAt t (longest t)) (table (λ k. k) (length t)), length-table {A = ℕ} (λ k. k) (length t))
 
 -- a table that was made in a long row
-module _ (s out row : List ℕ) {row′ : List ℕ} {r : Filled} (h : length s ≤ maxPattern) (size : length out ≡ length s) (room : 4096 ≤ length row)
+module _ (s out row : List ℕ) {row′ : List ℕ} {r : Filled} (h : length s ≤ maxPattern) (size : length out ≡ length s) (room : maxPattern ≤ length row)
     (w : Fills (patternTooLong s ∷ tooShort (length out) (length row) ∷ []) out (length s) row row′ r) where
   made : row′ ≡ out ++ drop (length out) row
   made =
@@ -67,17 +68,16 @@ module _ (s array last : List ℕ) (from to : ℕ) (b row starts : List ℕ) whe
       tooShort (length (groupNumbers (middleGroups s from to b))) (length row)
       ∷ tooShort (length (longestStarts (edited s from to b))) (length starts) ∷ []
 
-  module _ (h : length s ≤ maxPattern) (right-tables : First tables 0) (middle-room : 810 ≤ length row) (starts-room : 4096 ≤ length starts) where
+  module _ (h : length s ≤ maxPattern) (right-tables : First tables 0) (middle-room : 3 * maxMiddle ≤ length row) (starts-room : maxPattern ≤ length starts) where
     past-first : (rs : List Refusal) → firstOf (patternTooLong s ∷ rs) ≡ firstOf rs
     past-first rs = first-passes (patternTooLong s) rs (le-ltb maxPattern (length s) h)
 
     room-left : Shaped s from to b → firstOf rooms ≡ 0
     room-left p =
-        let digits = bits-least from 13 (omega (arith, p .start, p .stretch, p .pattern)) in
         let n = length-numbers (middleGroups s from to b) in
         let m = length-edited s from to b (p .start) (p .stretch) in
         first-is
-        (not-short _ (length row) (omega (arith, n, middle-bound s from to b (p .start) (p .stretch), digits, p .block))
+        (not-short _ (length row) (omega (arith, n, middle-few s from to b (p .start) (p .stretch) (p .pattern) (p .block)))
         (not-short _ (length starts) (omega (arith, starts-few (edited s from to b), m, p .fits)) First.none))
 
     passed : firstOf shape ≡ 0 → firstOf (editRefusals s array last from to b) ≡ 0

@@ -16,6 +16,7 @@ use Rattle.refusals.proofs.First.{first-zero}
 use Rattle.refusals.specs.Refusals.{editRefusals, Refusal, firstOf, maxPattern, tooShort}
 use Rattle.rows.specs.Written.{Room}
 use Rattle.text.proofs.Lengths.{listing-room}
+use Rattle.text.specs.Inner.{maxListing}
 use Rattle.text.specs.Listing.{editedText}
 use Rattle.words.proofs.Edit.{length-edited}
 use Rattle.words.specs.Edit.{edited, middleGroups}
@@ -39,6 +40,6 @@ module _ {s array last : List ℕ} {from to : ℕ} {b row row′ starts starts�
   fits : length (edited s from to b) ≤ maxPattern
   fits = omega (arith, length-edited s from to b (shape .start) (shape .stretch), shape .fits)
 
-  pub taken : (d : List ℕ) → 77849 ≤ length d
+  pub taken : (d : List ℕ) → maxListing ≤ length d
       → (from ≤ to) × (to ≤ length s) × (length (edited s from to b) ≤ maxPattern) × Room (editedText s from to b) 0 d
   taken d h = (shape .start, shape .stretch, fits, omega (arith, listing-room (edited s from to b) fits))

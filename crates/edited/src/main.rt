@@ -2,6 +2,7 @@
 // can't be opened or read is empty; of each file one byte is read past the longest that is accepted. What is to be printed for
 // the bytes that were read is made and proved in `write_output`; `main` reads and writes.
 use edit::Answer;
+use edit::MAX_MIDDLE;
 use edit_file::Parsed;
 use edit_file::parse;
 use edited_text::write_edited;
@@ -9,13 +10,17 @@ use libc::STDOUT_FILENO;
 use lyndon::last_factors;
 use lyndon::lyndon_array;
 use lyndon_edit::edit_numbers;
+use refusals::MAX_BLOCK;
 use refusals::MAX_PATTERN;
+use text::MAX_LISTING;
 use text::write_refusal;
 ghost use Prim.Native.Nat.{_≤_};
 ghost use mathlib.Core.Path.{_≡_};
 ghost use lib.ListN.{length};
 ghost use Rattle.io.specs.Counts.{Counts};
+ghost use Rattle.refusals.specs.Refusals.{maxPattern};
 ghost use Rattle.rows.specs.Written.{Puts};
+ghost use Rattle.text.specs.Inner.{maxListing};
 ghost use Rattle.edited.specs.Output.{editOutput, Prints};
 ghost use Rattle.edited.specs.Refusal.{refusalIn};
 
@@ -51,15 +56,15 @@ fn refusal_of(answer: Answer) -> u8
 // Writes all that is printed for an edit to the front of a buffer that holds every listing. The answer tells whether the edit is accepted; the
 // groups of the whole edited pattern are read off that pattern.
 fn write_answer(pattern: &[u8], from: usize, to: usize, block: &[u8], text: &mut [u8]) -> usize
-    requires { ⌜ (length (now pattern) ≤ 4096) × (77849 ≤ length (now text)) ⌝ }
+    requires { ⌜ (length (now pattern) ≤ maxPattern) × (maxListing ≤ length (now text)) ⌝ }
     ensures { λ r. ⌜ Puts (editOutput (now (pattern .entry)) from to (now (block .entry))) 0 (now (text .entry)) (now (text .exit)) r ⌝ }
 {
-    let mut array = [0u16; 4096];
+    let mut array = [0u16; MAX_PATTERN];
     lyndon_array(pattern, &mut array);
-    let mut last = [0u16; 4096];
+    let mut last = [0u16; MAX_PATTERN];
     last_factors(pattern, &mut last);
-    let mut middle = [0u16; 810];
-    let mut starts = [0u16; 4096];
+    let mut middle = [0u16; 3 * MAX_MIDDLE];
+    let mut starts = [0u16; MAX_PATTERN];
     let answer = edit_numbers(
         pattern,
         &array,
@@ -78,7 +83,7 @@ fn write_answer(pattern: &[u8], from: usize, to: usize, block: &[u8], text: &mut
 
 // Writes all that is printed for the contents of the three files to the front of such a buffer.
 fn write_output(pattern: &[u8], block: &[u8], csv: &[u8], text: &mut [u8]) -> usize
-    requires { ⌜ 77849 ≤ length (now text) ⌝ }
+    requires { ⌜ maxListing ≤ length (now text) ⌝ }
     ensures { λ r. ⌜ Prints (now (pattern .entry)) (now (block .entry)) (now (csv .entry)) (now (text .entry)) (now (text .exit)) r ⌝ }
 {
     if MAX_PATTERN < pattern.len() {
@@ -93,13 +98,13 @@ fn write_output(pattern: &[u8], block: &[u8], csv: &[u8], text: &mut [u8]) -> us
 }
 
 fn main() {
-    let mut pattern = [0u8; 4097];
+    let mut pattern = [0u8; MAX_PATTERN + 1];
     let n = read_file(&PATTERN, &mut pattern);
-    let mut block = [0u8; 257];
+    let mut block = [0u8; MAX_BLOCK + 1];
     let b = read_file(&BLOCK, &mut block);
     let mut csv = [0u8; 23];
     let c = read_file(&EDIT, &mut csv);
-    let mut text = [0u8; 77849];
+    let mut text = [0u8; MAX_LISTING];
     let count = write_output(&pattern[..n], &block[..b], &csv[..c], &mut text);
     io::write_all(STDOUT_FILENO, &text[..count]);
 }

@@ -1,6 +1,7 @@
 // The edited listing, written to a lent buffer: one pass over the edited pattern, so that equal words across the seams of an edit are one
 // group. That the edit can be made and the buffer is long enough is the caller's concern.
 use cuts::splice;
+use refusals::MAX_PATTERN;
 use text::write_text;
 ghost use Prim.Native.Nat.{_≤_};
 ghost use lib.ListN.{length};
@@ -21,7 +22,7 @@ pub fn write_edited(
         × Room (editedText (now pattern) from to (now block)) 0 (now buffer) ⌝ }
     ensures { λ r. ⌜ Puts (editedText (now (pattern .entry)) from to (now (block .entry))) 0 (now (buffer .entry)) (now (buffer .exit)) r ⌝ }
 {
-    let mut t = [0u8; 4096];
+    let mut t = [0u8; MAX_PATTERN];
     splice(pattern, from, to, block, &mut t);
     let m = from + block.len() + (pattern.len() - to);
     write_text(&t[..m], buffer)

@@ -12,6 +12,7 @@ use Rattle.refusals.proofs.First.{First, first-is, too-long, not-long, not-shor
 use Rattle.text.proofs.Lengths.{listing-room}
 use Rattle.text.proofs.Lines.{refusal-room}
 use Rattle.text.proofs.Begins.{puts-begins}
+use Rattle.text.specs.Inner.{maxListing}
 use Rattle.text.specs.Listing.{listingText, refusalText, printed, Begins}
 use Rattle.rows.specs.Written.{Room, Puts}
 use Rattle.words.proofs.Bounded.{le-or-lt}
@@ -26,7 +27,7 @@ printed-refused : {k : ℕ} (n : ℕ) (text : List ℕ) → k ≡ n → (k ≡ 0
 printed-refused zero text e h = absurd (h e)
 printed-refused (suc n) text e h = ap refusalText (sym e)
 
-module _ (s d : List ℕ) {d′ : List ℕ} {r : Filled} (w : ListingWritten s d d′ r) (room : 77849 ≤ length d) where
+module _ (s d : List ℕ) {d′ : List ℕ} {r : Filled} (w : ListingWritten s d d′ r) (room : maxListing ≤ length d) where
   abbrev first : ℕ
   first = firstOf (patternTooLong s ∷ tooShort (length (listingText s)) (length d) ∷ [])
 

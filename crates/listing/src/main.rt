@@ -3,15 +3,18 @@
 use libc::STDIN_FILENO;
 use libc::STDOUT_FILENO;
 use lyndon_text::write_listing;
+use refusals::MAX_PATTERN;
+use text::MAX_LISTING;
 use text::write_refusal;
 ghost use Prim.Native.Nat.{_≤_};
 ghost use lib.ListN.{length};
+ghost use Rattle.text.specs.Inner.{maxListing};
 ghost use Rattle.text.specs.Listing.{Begins};
 ghost use Rattle.listing.specs.Output.{output};
 
 // Writes all that is printed for a pattern to the front of a buffer that holds every listing.
 fn write_output(pattern: &[u8], text: &mut [u8]) -> usize
-    requires { ⌜ 77849 ≤ length (now text) ⌝ }
+    requires { ⌜ maxListing ≤ length (now text) ⌝ }
     ensures { λ r. ⌜ Begins (output (now (pattern .entry))) (now (text .entry)) (now (text .exit)) r ⌝ }
 {
     let answer = write_listing(pattern, text);
@@ -22,9 +25,9 @@ fn write_output(pattern: &[u8], text: &mut [u8]) -> usize
 }
 
 fn main() {
-    let mut pattern = [0u8; 4097];
+    let mut pattern = [0u8; MAX_PATTERN + 1];
     let n = io::read_full(STDIN_FILENO, &mut pattern);
-    let mut text = [0u8; 77849];
+    let mut text = [0u8; MAX_LISTING];
     let count = write_output(&pattern[..n], &mut text);
     io::write_all(STDOUT_FILENO, &text[..count]);
 }

@@ -1,6 +1,7 @@
 // The public calls that answer an edit of a stored pattern: `edit` with the middle groups as records, `edit_numbers` with three numbers each.
 // Both test refusals 1, 2, 3, 4, 5 and 8 in this order and write nothing where one holds; neither requires anything.
 use edit::Answer;
+use edit::MAX_MIDDLE;
 use edit::count_of;
 use edit_core::core;
 use records::Group;
@@ -20,7 +21,7 @@ pub fn edit(
 ) -> Answer
     ensures { λ r. ⌜ EditsRecords (now (pattern .entry)) (now (array .entry)) (now (last .entry)) from to (now (block .entry)) (now (middle .entry)) (now (middle .exit)) (now (starts .entry)) (now (starts .exit)) r ⌝ }
 {
-    let mut numbers = [0u16; 810];
+    let mut numbers = [0u16; 3 * MAX_MIDDLE];
     let answer = core(
         pattern,
         array,

@@ -8,7 +8,7 @@ use lib.ListN.{length, take}
 use Rattle.refusals.proofs.First.{none, too-long, not-long, past-end, not-past, too-short, not-short, table-short, table-wrong, table-right}
 use Rattle.refusals.proofs.Outcome.{Refused, fills-refused, fills-accepted}
 use Rattle.refusals.specs.Filled.{Fills}
-use Rattle.refusals.specs.Refusals.{patternTooLong, pastEnd, notTable, tooShort}
+use Rattle.refusals.specs.Refusals.{maxPattern, patternTooLong, pastEnd, notTable, tooShort}
 use Rattle.refusals.specs.declared.Filled.{Filled}
 use Rattle.rows.specs.Row.{written}
 use Rattle.scan.proofs.Pass.{length-numbers}
@@ -22,10 +22,10 @@ module _ (s def table row : List ℕ) (q : ℕ) (gs : List Group) (size : length
       Fills (patternTooLong s ∷ pastEnd s q ∷ notTable def table ∷ tooShort (length (groupNumbers gs)) (length row) ∷ []) (groupNumbers gs) (length gs) row
       row′ r
 
-  pub part-long : 4096 < length s → Refused r 1 → Called row
+  pub part-long : maxPattern < length s → Refused r 1 → Called row
   part-long h e = fills-refused (too-long s h) e
 
-  module _ (h : length s ≤ 4096) where
+  module _ (h : length s ≤ maxPattern) where
     pub part-past : length s < q → Refused r 2 → Called row
     part-past l e = fills-refused (not-long s h (past-end s q l)) e
 

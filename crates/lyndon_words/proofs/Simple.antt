@@ -12,7 +12,7 @@ use lib.Seq.{take-all, take-at, take-length, take-append-seam, length-take-le}
 use borrow.Author.Tests.{eq-eqb, ne-eqb, lt-ltb, le-ltb}
 use Rattle.refusals.proofs.First.{First, none, holds, passes, first-is, too-long, not-long, too-short, not-short}
 use Rattle.refusals.proofs.Outcome.{Refused, fills-refused, fills-accepted}
-use Rattle.refusals.specs.Refusals.{unlessRefused, rowAfter, patternTooLong, wordTooLong, notLyndon, tooShort, patternRepeated}
+use Rattle.refusals.specs.Refusals.{unlessRefused, rowAfter, maxPattern, patternTooLong, wordTooLong, notLyndon, tooShort, patternRepeated}
 use Rattle.refusals.specs.declared.Filled.{Filled}
 use Rattle.rows.specs.Row.{written, writtenAt}
 use Rattle.scan.proofs.Next.{next-words}
@@ -35,7 +35,7 @@ use Rattle.lyndon_words.specs.declared.Verdict.{Verdict}
 
 -- longest_words
 module _ (s row : List ℕ) where
-  pub starts-long : 4096 < length s → StartsListed s row row (record { refusal = 1; length = 0; count = 0 })
+  pub starts-long : maxPattern < length s → StartsListed s row row (record { refusal = 1; length = 0; count = 0 })
   starts-long h =
       let e = sym (first-is (too-long s {rs = tooShort (length (longestStarts s)) (length row) ∷ []} h)) in
       record {
@@ -45,7 +45,7 @@ module _ (s row : List ℕ) where
         leaves = ap (λ n. rowAfter n (longestStarts s) row) e;
       }
 
-  pub starts-short : length s ≤ 4096 → length row < length (longestStarts s) → StartsListed s row row (record { refusal = 8; length = 0; count = 0 })
+  pub starts-short : length s ≤ maxPattern → length row < length (longestStarts s) → StartsListed s row row (record { refusal = 8; length = 0; count = 0 })
   starts-short h l =
       let f : First (patternTooLong s ∷ tooShort (length (longestStarts s)) (length row) ∷ []) 8 =
       not-long s h (too-short (length (longestStarts s)) (length row) l) in
@@ -57,7 +57,7 @@ module _ (s row : List ℕ) where
         leaves = ap (λ n. rowAfter n (longestStarts s) row) e;
       }
 
-  pub starts-done : (l k : ℕ) {row′ : List ℕ} → length s ≤ 4096 → length (longestStarts s) ≤ length row → l ≡ longest s → k ≡ length (longestStarts s)
+  pub starts-done : (l k : ℕ) {row′ : List ℕ} → length s ≤ maxPattern → length (longestStarts s) ≤ length row → l ≡ longest s → k ≡ length (longestStarts s)
       → row′ ≡ written (longestStarts s) row → StartsListed s row row′ (record { refusal = 0; length = l; count = k })
   starts-done l k h m p q w =
       let f : First (patternTooLong s ∷ tooShort (length (longestStarts s)) (length row) ∷ []) 0 =
@@ -72,10 +72,10 @@ module _ (s row : List ℕ) where
 
 -- longest_word
 module _ (s : List ℕ) where
-  pub word-long : 4096 < length s → [] ≡ wordPart s
+  pub word-long : maxPattern < length s → [] ≡ wordPart s
   word-long h = ap (λ n. unlessRefused n (take (longestWord s .1) (drop (longestWord s .0) s)) []) (sym (first-is (too-long s {rs = []} h)))
 
-  pub word-part : length s ≤ 4096 → (a l : ℕ) → a ≡ longestWord s .0 → l ≡ longest s → take l (drop a s) ≡ wordPart s
+  pub word-part : length s ≤ maxPattern → (a l : ℕ) → a ≡ longestWord s .0 → l ≡ longest s → take l (drop a s) ≡ wordPart s
   unfolding longestWord
   word-part h a l p q =
       rw (p, q) (ap (λ n. unlessRefused n (take (longestWord s .1) (drop (longestWord s .0) s)) []) (sym (first-is (not-long s {rs = []} h none))))
@@ -88,17 +88,17 @@ word-within (x ∷ xs) = longest-listed (x ∷ xs) (longestWord (x ∷ xs) .0) .
 
 -- is_lyndon
 module _ (w : List ℕ) where
-  pub told-long : 4096 < length w → LyndonTold w (record { refusal = 1; yes = false })
+  pub told-long : maxPattern < length w → LyndonTold w (record { refusal = 1; yes = false })
   told-long h =
       let e = sym (first-is (too-long w {rs = []} h)) in
       record { refusal = e; yes = ap (λ n. unlessRefused n (lyndon w) false) e }
 
-  pub told : length w ≤ 4096 → (b : Bool) → b ≡ lyndon w → LyndonTold w (record { refusal = 0; yes = b })
+  pub told : length w ≤ maxPattern → (b : Bool) → b ≡ lyndon w → LyndonTold w (record { refusal = 0; yes = b })
   told h b q =
       let e = sym (first-is (not-long w {rs = []} h none)) in
       record { refusal = e; yes = q ∙ ap (λ n. unlessRefused n (lyndon w) false) e }
 
-  pub told-yes : {v : Verdict} → length w ≤ 4096 → LyndonTold w v → v .yes ≡ lyndon w
+  pub told-yes : {v : Verdict} → length w ≤ maxPattern → LyndonTold w v → v .yes ≡ lyndon w
   told-yes h t = t .yes ∙ ap (λ n. unlessRefused n (lyndon w) false) (first-is (not-long w {rs = []} h none))
 
   pub empty-not-lyndon : length w ≡ 0 → false ≡ lyndon w
@@ -132,10 +132,10 @@ module _ (s : List ℕ) where
       let e = sym (first-is f) in
       record { refusal = e; start = ap (λ n. unlessRefused n (leastRotation s) 0) e; unique = λ z. absurd (omega (arith, z)) }
 
-  pub rotation-long : 4096 < length s → RotationFound s (record { refusal = 1; start = 0 })
+  pub rotation-long : maxPattern < length s → RotationFound s (record { refusal = 1; start = 0 })
   rotation-long h = rotation-refused (too-long s h)
 
-  module _ (h : length s ≤ 4096) where
+  module _ (h : length s ≤ maxPattern) where
     pub rotation-repeated : true ≡ repeated s → RotationFound s (record { refusal = 10; start = 0 })
     rotation-repeated e = rotation-refused (not-long s h (holds {r = patternRepeated s} (sym e)))
 

@@ -106,7 +106,7 @@ pub fn least_rotation(pattern: &[u8]) -> Position
             start: 0,
         };
     }
-    let mut twice = [0u8; 8192];
+    let mut twice = [0u8; 2 * MAX_PATTERN];
     double(pattern, &mut twice);
     let end = 2 * n;
     let found = least_start(&twice[..end], n);

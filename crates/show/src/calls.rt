@@ -1,16 +1,17 @@
 // A function for each public call: it prints the call and what is given, makes the call with a row of `room` entries, or a buffer of `room` bytes,
 // and prints the answer with what the call leaves there. A part of the row is `[0..n]`: of `[..n]` the search does not know the length.
+use refusals::MAX_PATTERN;
 ghost use Prim.Native.Nat.{_≤_};
 
 // What each entry of a row holds before a call, and the longest row.
 pub const OLD: u16 = 7777;
 
-const SPACE: usize = 4097;
+const SPACE: usize = MAX_PATTERN + 1;
 
 // What each byte of a buffer holds before a call, and the longest buffer.
 pub const BLANK: u8 = b'.';
 
-pub const BUFFER: usize = 4104;
+pub const BUFFER: usize = MAX_PATTERN + 8;
 
 pub fn least(a: usize, b: usize) -> usize
     ensures { λ r. ⌜ r ≤ a ⌝ }

@@ -6,6 +6,7 @@ use native.Mathlib.Nat.{mul-le-mul-right}
 use native.Mathlib.Omega.{arith}
 use lib.ListN.{length, take, drop, replicate, length-append, length-take, length-drop, length-replicate}
 use Rattle.hex.specs.Hex.{pairOf}
+use Rattle.refusals.specs.Refusals.{maxPattern}
 use Rattle.scan.proofs.Next.{groups-start}
 use Rattle.words.specs.Factors.{join, factors, Group, groupsFrom}
 use Rattle.words.specs.Tables.{groups, suffixGroups}
@@ -14,6 +15,7 @@ use Rattle.words.proofs.EditParts.{end-apart, end-all}
 use Rattle.words.proofs.Groups.{Packed, none, more, packed, groups-most}
 use Rattle.decimal.specs.Decimal.{codes, digitCount, decimal}
 use Rattle.text.specs.Hexadecimal.{hexadecimal}
+use Rattle.text.specs.Inner.{maxListing}
 use Rattle.text.specs.Listing.{header, field, line, lines, listingText}
 use Rattle.decimal.proofs.Decimal.{length-decimal, count-least}
 
@@ -105,5 +107,5 @@ unfolding groups
 groups-few s = omega (arith, groups-most 0 (factors s), factors-few s)
 
 -- a buffer of this length always suffices
-pub listing-room : (s : List ℕ) → length s ≤ 4096 → length (listingText s) ≤ 77849
+pub listing-room : (s : List ℕ) → length s ≤ maxPattern → length (listingText s) ≤ maxListing
 listing-room s h = omega (arith, listing-bound s 3 (omega arith), groups-few s)

@@ -3,6 +3,7 @@
 use decimal::digit_count;
 use decimal::write_decimal;
 use hex::pair_of;
+use refusals::MAX_PATTERN;
 use rows::write_bytes;
 use scan::next_group;
 ghost use mathlib.Core.Path.{_≡_};
@@ -15,6 +16,9 @@ ghost use Rattle.rows.specs.Written.{Room, Puts};
 
 // The first line of every listing.
 pub const HEADER: [u8; 25] = *b"start,length,power,word\r\n";
+
+// No listing of an accepted pattern is longer: the header, and for each byte at most 5 + 3 * 4 + 2 bytes.
+pub const MAX_LISTING: usize = 25 + 19 * MAX_PATTERN;
 
 const LINE_END: [u8; 2] = *b"\r\n";
 

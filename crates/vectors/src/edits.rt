@@ -1,7 +1,9 @@
 // The answer to edits: the trainer's sheet, both ends, edges of length, refusals of which later ones hold too, wrong entries of the tables,
 // and positions at the largest `usize`. Rows have room for so many groups and places.
 use edit::Answer;
+use edit::MAX_MIDDLE;
 use lyndon_edit::edit_numbers;
+use refusals::MAX_PATTERN;
 use show::calls::OLD;
 use show::calls::least;
 
@@ -40,11 +42,11 @@ fn edit_with(
     show::number(b"to", to as u64);
     show::text(b" block");
     show::word(block);
-    let mut space = [OLD; 810];
-    let n = 3 * least(groups, 270);
+    let mut space = [OLD; 3 * MAX_MIDDLE];
+    let n = 3 * least(groups, MAX_MIDDLE);
     let middle = &mut space[0..n];
-    let mut more = [OLD; 4096];
-    let p = least(places, 4096);
+    let mut more = [OLD; MAX_PATTERN];
+    let p = least(places, MAX_PATTERN);
     let starts = &mut more[0..p];
     let a = edit_numbers(pattern, array, last, from, to, block, middle, starts);
     answer(a);
@@ -55,8 +57,8 @@ fn edit_with(
 
 // With the pattern's own tables.
 fn edit(pattern: &[u8], from: usize, to: usize, block: &[u8], groups: usize, places: usize) {
-    let mut array = [0; 4096];
-    let mut last = [0; 4096];
+    let mut array = [0; MAX_PATTERN];
+    let mut last = [0; MAX_PATTERN];
     lyndon::lyndon_array(pattern, &mut array);
     lyndon::last_factors(pattern, &mut last);
     edit_with(pattern, &array, &last, from, to, block, groups, places);

@@ -2,6 +2,7 @@
 use Rattle.edited.proofs.Taken.{taken}
 use Rattle.edited.proofs.Printed.{line-room, refused-output, edited-output}
 use borrow.Author.Needs.{needs}
+use Rattle.edit.proofs.Filled.{max-middle}
 use Rattle.edited.proofs.write_answer.Statement.{statement}
 use Rattle.edited.proofs.write_answer.Tie as tie
 use Rattle.edited.proofs.write_answer.Reads as reads
@@ -66,7 +67,7 @@ returns c =
     let f = c .before .before .before .before .before .before .before .before .before .before .before .before .before .before .before .before .before .before .before .before .before .before .before in
     let a = f .args in
     refused-output (a .pattern .now) (a .from) (a .to) (a .block .now) (f .pre .0) (c .before .before .before .before .before .before .before .before .before .before .before .before .before .before .before .before .before .before .lyndon-array .ensures) (search needs)
-    (c .before .before .before .before .before .before .before .before .before .before .before .before .before .before .before .last-factors .ensures) (search needs) (answered .edit-numbers .ensures) (search needs) (search needs)
+    (c .before .before .before .before .before .before .before .before .before .before .before .before .before .before .before .last-factors .ensures) (search needs) (answered .edit-numbers .ensures) (search (needs, max-middle)) (search needs)
     (c .before .before .before .before .before .enum-told2 .given .1) (c .before .before .before .before .refusal-of .ensures) (c .before .before .write-refusal .ensures)
 
 write-edited-requires : tie.Need-write-edited-requires
@@ -83,7 +84,7 @@ returns-2 c =
     let f = c .before .before .before .before .before .before .before .before .before .before .before .before .before .before .before .before .before .before .before .before .before .before in
     let a = f .args in
     edited-output (a .pattern .now) (a .from) (a .to) (a .block .now) (f .pre .0) (c .before .before .before .before .before .before .before .before .before .before .before .before .before .before .before .before .before .lyndon-array .ensures) (search needs)
-    (c .before .before .before .before .before .before .before .before .before .before .before .before .before .before .last-factors .ensures) (search needs) (answered .edit-numbers .ensures) (search needs) (search needs)
+    (c .before .before .before .before .before .before .before .before .before .before .before .before .before .before .last-factors .ensures) (search needs) (answered .edit-numbers .ensures) (search (needs, max-middle)) (search needs)
     (c .before .before .before .before .enum-told .given .1) (c .before .before .write-edited .ensures)
 
 pub write-answer-spec : {M : Type 1} → statement M

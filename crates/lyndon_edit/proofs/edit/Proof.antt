@@ -48,6 +48,7 @@ use denote.Exit.{yes}
 use Rattle.records.specs.declared.Group.{Group}
 use Rattle.edit.specs.declared.Answer.{Answer}
 use Rattle.records.specs.Groups.{filled}
+use Rattle.edit.proofs.Filled.{max-middle}
 use Rattle.edit.specs.Inner.{countOf, FillsNumbers}
 use Rattle.words.specs.Edit.{middleGroups}
 use Rattle.lyndon_edit.specs.Calls.{allRefusals, EditsRecords}
@@ -76,18 +77,21 @@ use Rattle.lyndon_edit.proofs.edit.Code as code
 abbrev stayed : Stays (thin.ended .signature .params) (thin.ended .kept)
 stayed = (stay-none-slice (0 ∷ []) tt (plain (λ _. u8)) yes, (stay-none-slice (1 ∷ []) tt (plain (λ _. u16)) yes, (stay-none-slice (2 ∷ []) tt (plain (λ _. u16)) yes, (stay-none (λ _. usize) yes, (stay-none (λ _. usize) yes, (stay-none-slice (3 ∷ []) tt (plain (λ _. u8)) yes, (gave-slice (4 ∷ []) tt (plain (λ _. T.the-row)), (gave-slice (5 ∷ []) tt (plain (λ _. u16)), tt))))))))
 
--- the array: its list, its machine value, and that it has room
+-- the array: its size, three numbers for each middle group that there may be, its list, its machine value, and that it has room
+abbrev size : ℕ
+size = 810
+
 abbrev zeros : List ℕ
-zeros = replicate 810 0
+zeros = replicate size 0
 
 abbrev zeros-val : Val
-zeros-val = arrayVal (replicate 810 (vint w16 0))
+zeros-val = arrayVal (replicate size (vint w16 0))
 
-roomN : Room u16 810
+roomN : Room u16 size
 roomN = (lit< tt, lit< tt)
 
-long : length zeros ≡ 810
-long = length-replicate {A = ℕ} 810 0
+long : length zeros ≡ size
+long = length-replicate {A = ℕ} size 0
 
 module _ {M : Type 1} (𝓤 : URA M) (H : Heap 𝓤) (A : Atoms 𝓤) (mem : Memory → SProp 𝓤) (run : Routine → Fun 𝓤) where
   -- the contracts that the proof cites
@@ -148,13 +152,13 @@ module _ {M : Type 1} (𝓤 : URA M) (H : Heap 𝓤) (A : Atoms 𝓤) (W : Given
   -- ---- what each callee's triple binds outside, and that the caller has what it asks. l is the array's place
   module _ (l : ℕ) where
     abbrev numv : Val
-    numv = sliceVal (l, 0) 810
+    numv = sliceVal (l, 0) size
 
     abbrev nums : GName → RefT (List ℕ)
-    nums γ = LA.at-list u16 810 l γ zeros
+    nums γ = LA.at-list u16 size l γ zeros
 
     abbrev shared : GName → List ℕ → RefT (List ℕ)
-    shared δ ns′ = LA.at-list u16 810 l δ ns′
+    shared δ ns′ = LA.at-list u16 size l δ ns′
 
     abbrev CoreArg : Type 0
     CoreArg = (RefT (List ℕ) × (RefT (List ℕ) × (RefT (List ℕ) × (ℕ × (ℕ × (RefT (List ℕ) × (ℕ × (RefT (List ℕ) × (RefT (List ℕ) × (Unit {0}))))))))))
@@ -166,7 +170,7 @@ module _ {M : Type 1} (𝓤 : URA M) (H : Heap 𝓤) (A : Atoms 𝓤) (W : Given
     to-core α γ = (((κ₀, (κ₁, (κ₂, (κ₃, (α ∷ [], (κ₅, tt)))))), (q₀, (q₁, (q₂, (q₃, (fullShare, (q₅, tt)))))), tt, core-args γ, ((sliceVal (x-pattern .ptr) (length (x-pattern .now))) ∷ [], ((sliceVal (x-array .ptr) (length (x-array .now))) ∷ [], ((sliceVal (x-last .ptr) (length (x-last .now))) ∷ [], ((vint w64 x-from) ∷ [], ((vint w64 x-to) ∷ [], ((sliceVal (x-block .ptr) (length (x-block .now))) ∷ [], ((vint w64 (length (x-middle .now))) ∷ [], (numv ∷ [], ((sliceVal (x-starts .ptr) (length (x-starts .now))) ∷ [], tt)))))))))), tt)
 
     asked-core : (α : ℕ) (γ : GName) → ent 𝓤 (sep 𝓤 (sep 𝓤 (A .lft κ₀ q₀) (sep 𝓤 (A .lft κ₁ q₁) (sep 𝓤 (A .lft κ₂ q₂) (sep 𝓤 (A .lft κ₃ q₃) (sep 𝓤 (A .lft (α ∷ []) fullShare) (sep 𝓤 (A .lft κ₅ q₅) (sem 𝓤 H A ftrue))))))) (sem 𝓤 H A (owns (ShrSlice (named 0) κ₀ u8 ∷ ShrSlice (named 1) κ₁ u16 ∷ ShrSlice (named 2) κ₂ u16 ∷ usize ∷ usize ∷ ShrSlice (named 3) κ₃ u8 ∷ usize ∷ MutSlice (named 4) (α ∷ []) u16 ∷ MutSlice (named 5) κ₅ u16 ∷ []) (core-args γ) ((sliceVal (x-pattern .ptr) (length (x-pattern .now))) ∷ [], ((sliceVal (x-array .ptr) (length (x-array .now))) ∷ [], ((sliceVal (x-last .ptr) (length (x-last .now))) ∷ [], ((vint w64 x-from) ∷ [], ((vint w64 x-to) ∷ [], ((sliceVal (x-block .ptr) (length (x-block .now))) ∷ [], ((vint w64 (length (x-middle .now))) ∷ [], (numv ∷ [], ((sliceVal (x-starts .ptr) (length (x-starts .now))) ∷ [], tt)))))))))))) (Core 𝓤 H A mem run .pre (to-core α γ))
-    asked-core α γ = qed W ((‵ (flft κ₀ q₀) ⊛ ‵ (flft κ₁ q₁) ⊛ ‵ (flft κ₂ q₂) ⊛ ‵ (flft κ₃ q₃) ⊛ ‵ (flft (α ∷ []) fullShare) ⊛ ‵ (flft κ₅ q₅) ⊛ ‵ ftrue) ∷ ‵ (owns (ShrSlice (named 0) κ₀ u8 ∷ ShrSlice (named 1) κ₁ u16 ∷ ShrSlice (named 2) κ₂ u16 ∷ usize ∷ usize ∷ ShrSlice (named 3) κ₃ u8 ∷ usize ∷ MutSlice (named 4) (α ∷ []) u16 ∷ MutSlice (named 5) κ₅ u16 ∷ []) (core-args γ) ((sliceVal (x-pattern .ptr) (length (x-pattern .now))) ∷ [], ((sliceVal (x-array .ptr) (length (x-array .now))) ∷ [], ((sliceVal (x-last .ptr) (length (x-last .now))) ∷ [], ((vint w64 x-from) ∷ [], ((vint w64 x-to) ∷ [], ((sliceVal (x-block .ptr) (length (x-block .now))) ∷ [], ((vint w64 (length (x-middle .now))) ∷ [], (numv ∷ [], ((sliceVal (x-starts .ptr) (length (x-starts .now))) ∷ [], tt)))))))))) ∷ []) ∵ says ! (omega (arith, long)) $ frame ! $ done !
+    asked-core α γ = qed W ((‵ (flft κ₀ q₀) ⊛ ‵ (flft κ₁ q₁) ⊛ ‵ (flft κ₂ q₂) ⊛ ‵ (flft κ₃ q₃) ⊛ ‵ (flft (α ∷ []) fullShare) ⊛ ‵ (flft κ₅ q₅) ⊛ ‵ ftrue) ∷ ‵ (owns (ShrSlice (named 0) κ₀ u8 ∷ ShrSlice (named 1) κ₁ u16 ∷ ShrSlice (named 2) κ₂ u16 ∷ usize ∷ usize ∷ ShrSlice (named 3) κ₃ u8 ∷ usize ∷ MutSlice (named 4) (α ∷ []) u16 ∷ MutSlice (named 5) κ₅ u16 ∷ []) (core-args γ) ((sliceVal (x-pattern .ptr) (length (x-pattern .now))) ∷ [], ((sliceVal (x-array .ptr) (length (x-array .now))) ∷ [], ((sliceVal (x-last .ptr) (length (x-last .now))) ∷ [], ((vint w64 x-from) ∷ [], ((vint w64 x-to) ∷ [], ((sliceVal (x-block .ptr) (length (x-block .now))) ∷ [], ((vint w64 (length (x-middle .now))) ∷ [], (numv ∷ [], ((sliceVal (x-starts .ptr) (length (x-starts .now))) ∷ [], tt)))))))))) ∷ []) ∵ says ! (omega (arith, long, max-middle)) $ frame ! $ done !
 
     abbrev StoreArg : Type 0
     StoreArg = RefT (List Group) × (RefT (List ℕ) × (ℕ × Unit {0}))
@@ -202,9 +206,9 @@ module _ {M : Type 1} (𝓤 : URA M) (H : Heap 𝓤) (A : Atoms 𝓤) (W : Given
         -- what each slice owns, and the tokens
         move ! (45 ∷ []) $ fsplit ! $ move ! (1 ∷ []) $ fsplit ! $ move ! (1 ∷ []) $ fsplit ! $ move ! (1 ∷ []) $ fsplit ! $ drop ! $ fsplit ! $ drop ! $ fsplit ! $ move ! (1 ∷ []) $ fsplit ! $ move ! (1 ∷ []) $ fsplit ! $ move ! (1 ∷ []) $ drop ! $ move ! (50 ∷ []) $ split ! $ move ! (1 ∷ []) $ split ! $ move ! (1 ∷ []) $ split ! $ move ! (1 ∷ []) $ split ! $ move ! (1 ∷ []) $ split ! $ move ! (1 ∷ []) $ split ! $ move ! (1 ∷ []) $ drop ! $
         -- the array: what it owns, and its cell
-        owned ! u16 (Is u16) (uint-makes 𝓤 H A W w16) 0 _ (refl, lit< tt) $ use1 W (‵ (Array u16 810 .own zeros (zeros-val ∷ []))) (array-repeat 𝓤 H A W u16 (uint-copy 𝓤 H A W w16) 810 0 (vint w16 0)) $ peeks ! (Array u16 810) (Is (Array u16 810)) (shows 𝓤 H A (Array u16 810)) zeros (zeros-val ∷ []) (λ are. assigns ! (rep ! 810 (lit ! tt)) (from ! (stop !)) (init ! 37 refl (array-lawful 𝓤 H A W u16 (uint-lawful 𝓤 H A W w16) 810 .typed zeros (zeros-val ∷ []) are .0)) $ assigns ! (of-opd ! (load ! (from ! (fld ! refl (stop !))) (look-in ! 41 (sub ! 1 refl (whole !))))) (from ! (stop !)) (init ! 31 refl (tt, record { fits = x-middle-room .0 })) $ assigns ! (addr ! (from ! (stop !))) (from ! (stop !)) (init ! 29 refl (tt, tt)) $ assigns ! (agg ! (and-then ! (load ! (from ! (stop !)) (look ! 29 refl)) (and-then ! (lit ! tt) (no-more !)))) (from ! (stop !)) (init ! 27 refl (tt, (tt, (record { fits = lit< tt }, tt)))) $ assigns ! (addr ! (from ! (fld ! refl (hop ! (look-in ! 39 (sub ! 0 refl (whole !))) (stop !))))) (from ! (stop !)) (init ! 25 refl (tt, tt)) $ assigns ! (agg ! (and-then ! (load ! (from ! (stop !)) (look ! 25 refl)) (and-then ! (load ! (from ! (fld ! refl (stop !))) (look-in ! 39 (sub ! 1 refl (whole !)))) (no-more !)))) (from ! (stop !)) (init ! 23 refl (tt, (tt, (record { fits = x-starts-room .0 }, tt)))) $
+        owned ! u16 (Is u16) (uint-makes 𝓤 H A W w16) 0 _ (refl, lit< tt) $ use1 W (‵ (Array u16 size .own zeros (zeros-val ∷ []))) (array-repeat 𝓤 H A W u16 (uint-copy 𝓤 H A W w16) size 0 (vint w16 0)) $ peeks ! (Array u16 size) (Is (Array u16 size)) (shows 𝓤 H A (Array u16 size)) zeros (zeros-val ∷ []) (λ are. assigns ! (rep ! size (lit ! tt)) (from ! (stop !)) (init ! 37 refl (array-lawful 𝓤 H A W u16 (uint-lawful 𝓤 H A W w16) size .typed zeros (zeros-val ∷ []) are .0)) $ assigns ! (of-opd ! (load ! (from ! (fld ! refl (stop !))) (look-in ! 41 (sub ! 1 refl (whole !))))) (from ! (stop !)) (init ! 31 refl (tt, record { fits = x-middle-room .0 })) $ assigns ! (addr ! (from ! (stop !))) (from ! (stop !)) (init ! 29 refl (tt, tt)) $ assigns ! (agg ! (and-then ! (load ! (from ! (stop !)) (look ! 29 refl)) (and-then ! (lit ! tt) (no-more !)))) (from ! (stop !)) (init ! 27 refl (tt, (tt, (record { fits = lit< tt }, tt)))) $ assigns ! (addr ! (from ! (fld ! refl (hop ! (look-in ! 39 (sub ! 0 refl (whole !))) (stop !))))) (from ! (stop !)) (init ! 25 refl (tt, tt)) $ assigns ! (agg ! (and-then ! (load ! (from ! (stop !)) (look ! 25 refl)) (and-then ! (load ! (from ! (fld ! refl (stop !))) (look-in ! 39 (sub ! 1 refl (whole !)))) (no-more !)))) (from ! (stop !)) (init ! 23 refl (tt, (tt, (record { fits = x-starts-room .0 }, tt)))) $
         -- `core`: the array is lent for a lifetime α
-        move ! (37 ∷ 0 ∷ []) $ use2 W (‵ (LA.Lies u16 810 l₉ zeros)) (LA.lies u16 810 l₉ 𝓤 H A W tt zeros zeros-val) $ lft-new ! tt (λ α. move ! (1 ∷ []) $ use1 W (later (some (λ (γ : GName). ‵ (MutSlice (named 4) (α ∷ []) u16 .own (nums l₉ γ) (numv l₉ ∷ [])) ⊛ ‵ (flent (α ∷ []) (Held u16 810 l₉ 0 γ))))) (LA.lends u16 810 l₉ 𝓤 H A W (named 4) (α ∷ []) zeros roomN) $ await ! tt $ pick ! (λ γ. split ! $ move ! (14 ∷ []) $ use1 W (‵ (Own-x-pattern) ⊛ ‵ (Own-x-pattern)) (shr-slice-copy 𝓤 H A W (named 0) κ₀ u8 .twice x-pattern ((sliceVal (x-pattern .ptr) (length (x-pattern .now))) ∷ [])) $ split ! $ move ! (15 ∷ []) $ use1 W (‵ (Own-x-array) ⊛ ‵ (Own-x-array)) (shr-slice-copy 𝓤 H A W (named 1) κ₁ u16 .twice x-array ((sliceVal (x-array .ptr) (length (x-array .now))) ∷ [])) $ split ! $ move ! (16 ∷ []) $ use1 W (‵ (Own-x-last) ⊛ ‵ (Own-x-last)) (shr-slice-copy 𝓤 H A W (named 2) κ₂ u16 .twice x-last ((sliceVal (x-last .ptr) (length (x-last .now))) ∷ [])) $ split ! $ move ! (17 ∷ []) $ use1 W (‵ (Own-x-block) ⊛ ‵ (Own-x-block)) (shr-slice-copy 𝓤 H A W (named 3) κ₃ u8 .twice x-block ((sliceVal (x-block .ptr) (length (x-block .now))) ∷ [])) $ split ! $ nothing ! $ move ! (18 ∷ 0 ∷ []) $ fjoin ! $ move ! (9 ∷ 0 ∷ []) $ fjoin ! $ owned ! usize (Is usize) (uint-makes 𝓤 H A W w64) (length (x-middle .now)) _ (refl, x-middle-room .0) $ fjoin ! $ move ! (2 ∷ 0 ∷ []) $ fjoin ! $ owned ! usize (Is usize) (uint-makes 𝓤 H A W w64) x-to _ (refl, x-to-fits) $ fjoin ! $ owned ! usize (Is usize) (uint-makes 𝓤 H A W w64) x-from _ (refl, x-from-fits) $ fjoin ! $ move ! (3 ∷ 0 ∷ []) $ fjoin ! $ move ! (4 ∷ 0 ∷ []) $ fjoin ! $ move ! (5 ∷ 0 ∷ []) $ fjoin ! $ nothing ! $ move ! (8 ∷ 0 ∷ []) $ join ! $ move ! (7 ∷ 0 ∷ []) $ join ! $ move ! (8 ∷ 0 ∷ []) $ join ! $ move ! (8 ∷ 0 ∷ []) $ join ! $ move ! (8 ∷ 0 ∷ []) $ join ! $ move ! (8 ∷ 0 ∷ []) $ join ! $ use2 W (raw (Core 𝓤 H A mem run .pre (to-core l₉ α γ))) (asked-core l₉ α γ) $
+        move ! (37 ∷ 0 ∷ []) $ use2 W (‵ (LA.Lies u16 size l₉ zeros)) (LA.lies u16 size l₉ 𝓤 H A W tt zeros zeros-val) $ lft-new ! tt (λ α. move ! (1 ∷ []) $ use1 W (later (some (λ (γ : GName). ‵ (MutSlice (named 4) (α ∷ []) u16 .own (nums l₉ γ) (numv l₉ ∷ [])) ⊛ ‵ (flent (α ∷ []) (Held u16 size l₉ 0 γ))))) (LA.lends u16 size l₉ 𝓤 H A W (named 4) (α ∷ []) zeros roomN) $ await ! tt $ pick ! (λ γ. split ! $ move ! (14 ∷ []) $ use1 W (‵ (Own-x-pattern) ⊛ ‵ (Own-x-pattern)) (shr-slice-copy 𝓤 H A W (named 0) κ₀ u8 .twice x-pattern ((sliceVal (x-pattern .ptr) (length (x-pattern .now))) ∷ [])) $ split ! $ move ! (15 ∷ []) $ use1 W (‵ (Own-x-array) ⊛ ‵ (Own-x-array)) (shr-slice-copy 𝓤 H A W (named 1) κ₁ u16 .twice x-array ((sliceVal (x-array .ptr) (length (x-array .now))) ∷ [])) $ split ! $ move ! (16 ∷ []) $ use1 W (‵ (Own-x-last) ⊛ ‵ (Own-x-last)) (shr-slice-copy 𝓤 H A W (named 2) κ₂ u16 .twice x-last ((sliceVal (x-last .ptr) (length (x-last .now))) ∷ [])) $ split ! $ move ! (17 ∷ []) $ use1 W (‵ (Own-x-block) ⊛ ‵ (Own-x-block)) (shr-slice-copy 𝓤 H A W (named 3) κ₃ u8 .twice x-block ((sliceVal (x-block .ptr) (length (x-block .now))) ∷ [])) $ split ! $ nothing ! $ move ! (18 ∷ 0 ∷ []) $ fjoin ! $ move ! (9 ∷ 0 ∷ []) $ fjoin ! $ owned ! usize (Is usize) (uint-makes 𝓤 H A W w64) (length (x-middle .now)) _ (refl, x-middle-room .0) $ fjoin ! $ move ! (2 ∷ 0 ∷ []) $ fjoin ! $ owned ! usize (Is usize) (uint-makes 𝓤 H A W w64) x-to _ (refl, x-to-fits) $ fjoin ! $ owned ! usize (Is usize) (uint-makes 𝓤 H A W w64) x-from _ (refl, x-from-fits) $ fjoin ! $ move ! (3 ∷ 0 ∷ []) $ fjoin ! $ move ! (4 ∷ 0 ∷ []) $ fjoin ! $ move ! (5 ∷ 0 ∷ []) $ fjoin ! $ nothing ! $ move ! (8 ∷ 0 ∷ []) $ join ! $ move ! (7 ∷ 0 ∷ []) $ join ! $ move ! (8 ∷ 0 ∷ []) $ join ! $ move ! (8 ∷ 0 ∷ []) $ join ! $ move ! (8 ∷ 0 ∷ []) $ join ! $ move ! (8 ∷ 0 ∷ []) $ join ! $ use2 W (raw (Core 𝓤 H A mem run .pre (to-core l₉ α γ))) (asked-core l₉ α γ) $
         calls-at ! fm (Core 𝓤 H A mem run) known-core (to-core l₉ α γ) (and-then ! (load ! (from ! (stop !)) (look ! 47 refl)) (and-then ! (load ! (from ! (stop !)) (look ! 45 refl)) (and-then ! (load ! (from ! (stop !)) (look ! 43 refl)) (and-then ! (load ! (from ! (stop !)) (look ! 41 refl)) (and-then ! (load ! (from ! (stop !)) (look ! 39 refl)) (and-then ! (load ! (from ! (stop !)) (look ! 37 refl)) (and-then ! (load ! (from ! (stop !)) (look ! 26 refl)) (and-then ! (load ! (from ! (stop !)) (look ! 22 refl)) (and-then ! (load ! (from ! (stop !)) (look ! 18 refl)) (no-more !)))))))))) (λ w.
         use1 W (later (some (λ (r : Answer). ((‵ (flft κ₀ q₀) ⊛ ‵ (flft κ₁ q₁) ⊛ ‵ (flft κ₂ q₂) ⊛ ‵ (flft κ₃ q₃) ⊛ ‵ (flft (α ∷ []) fullShare) ⊛ ‵ (flft κ₅ q₅) ⊛ ‵ ftrue) ⊛ ‵ (Ans.the-row .own r (w ∷ []))) ⊛ raw (ensured 𝓤 H A core.ended (core.clauses 𝓤 H A mem run) (κ₀, (κ₁, (κ₂, (κ₃, (α ∷ [], (κ₅, tt)))))) (core-args l₉ γ) tt r)))) (id⊢ 𝓤 _) $ await ! tt $ pick ! (λ r. split ! $ move ! (1 ∷ []) $
         use1 W (some (λ (zs : (Unit {0} × (Unit {0} × (Unit {0} × (Unit {0} × (Unit {0} × (Unit {0} × (Unit {0} × (List ℕ × (List ℕ × (Unit {0}))))))))))). ‵ (lasts core.ended (κ₀, (κ₁, (κ₂, (κ₃, (α ∷ [], (κ₅, tt)))))) (core-args l₉ γ) zs) ⊛ raw (fact 𝓤 (CoreSays (zs .1 .1 .1 .1 .1 .1 .1 .0) (zs .1 .1 .1 .1 .1 .1 .1 .1 .0) r)))) (id⊢ 𝓤 _) $ pick ! (λ zs. split ! $ move ! (1 ∷ []) $ heard ! (CoreSays (zs .1 .1 .1 .1 .1 .1 .1 .0) (zs .1 .1 .1 .1 .1 .1 .1 .1 .0) r) (λ said. fsplit ! $ drop ! $ fsplit ! $ drop ! $ fsplit ! $ drop ! $ fsplit ! $ drop ! $ fsplit ! $ drop ! $ fsplit ! $ drop ! $ fsplit ! $ drop ! $ fsplit ! $ fsplit ! $ move ! (1 ∷ []) $ feqL ! (λ array-long. move ! (1 ∷ []) $ fsplit ! $ fsplit ! $ move ! (1 ∷ []) $ feqL ! (λ x-starts-long. move ! (1 ∷ []) $ drop ! $ move ! (2 ∷ []) $ split ! $ split ! $ move ! (1 ∷ []) $ split ! $ move ! (1 ∷ []) $ split ! $ move ! (1 ∷ []) $ split ! $ move ! (1 ∷ []) $ split ! $ move ! (1 ∷ []) $ split ! $ move ! (1 ∷ []) $ drop ! $ move ! (6 ∷ []) $ peeks ! Ans.the-row (Is Ans.the-row) (shows 𝓤 H A Ans.the-row) r (w ∷ []) (λ is. land ! (from ! (stop !)) (init ! 38 refl (typed r w is)) $
@@ -214,12 +218,12 @@ module _ {M : Type 1} (𝓤 : URA M) (H : Heap 𝓤) (A : Atoms 𝓤) (W : Given
         use1 W (later (some (λ (n : ℕ). (‵ ftrue ⊛ ‵ (usize .own n (v ∷ []))) ⊛ raw (ensured 𝓤 H A count-of.ended (count-of.clauses 𝓤 H A mem run) tt (r, tt) tt n)))) (id⊢ 𝓤 _) $ await ! tt $ pick ! (λ n. split ! $ move ! (1 ∷ []) $ use1 W (raw (fact 𝓤 (n ≡ countOf r))) (count-said r n) $ heard ! (n ≡ countOf r) (λ counts. split ! $ drop ! $ peeks ! usize (Is usize) (shows 𝓤 H A usize) n (v ∷ []) (λ is′. land ! (from ! (stop !)) (init ! 37 refl (uint-lawful 𝓤 H A W w64 .typed n _ is′ .0)) $
         assigns ! (addr ! (from ! (fld ! refl (hop ! (look-in ! 44 (sub ! 0 refl (whole !))) (stop !))))) (from ! (stop !)) (init ! 23 refl (tt, tt)) $ assigns ! (agg ! (and-then ! (load ! (from ! (stop !)) (look ! 23 refl)) (and-then ! (load ! (from ! (fld ! refl (stop !))) (look-in ! 44 (sub ! 1 refl (whole !)))) (no-more !)))) (from ! (stop !)) (init ! 21 refl (tt, (tt, (record { fits = x-middle-room .0 }, tt)))) $ assigns ! (addr ! (from ! (stop !))) (from ! (stop !)) (init ! 19 refl (tt, tt)) $ assigns ! (agg ! (and-then ! (load ! (from ! (stop !)) (look ! 19 refl)) (and-then ! (lit ! tt) (no-more !)))) (from ! (stop !)) (init ! 17 refl (tt, (tt, (record { fits = lit< tt }, tt)))) $
         -- the array comes back at what was left in it, and is lent, shared, for a lifetime β
-        move ! (3 ∷ []) $ lft-end ! tt $ move ! (0 ∷ 14 ∷ 9 ∷ []) $ use3 W (later (‵ (LA.Lies u16 810 l₉ (zs .1 .1 .1 .1 .1 .1 .1 .0)))) (LA.back u16 810 l₉ 𝓤 H A W (α ∷ []) γ (zs .1 .1 .1 .1 .1 .1 .1 .0)) $ await ! tt $ lft-new ! tt (λ β. move ! (1 ∷ []) $ use1 W (later (some (λ (δ : GName). ‵ (ShrSlice (named 1) (β ∷ []) u16 .own (shared l₉ δ (zs .1 .1 .1 .1 .1 .1 .1 .0)) (numv l₉ ∷ [])) ⊛ ‵ (flent (β ∷ []) (LA.Lies u16 810 l₉ (zs .1 .1 .1 .1 .1 .1 .1 .0)))))) (LA.shares-out u16 810 l₉ 𝓤 H A W (named 1) (β ∷ []) (zs .1 .1 .1 .1 .1 .1 .1 .0) roomN) $ await ! tt $ pick ! (λ δ. split ! $ nothing ! $ move ! (4 ∷ 0 ∷ []) $ fjoin ! $ move ! (1 ∷ 0 ∷ []) $ fjoin ! $ move ! (15 ∷ 0 ∷ []) $ fjoin ! $ nothing ! $ move ! (3 ∷ 0 ∷ []) $ join ! $ move ! (14 ∷ 0 ∷ []) $ join ! $ use2 W (raw (StoreAll 𝓤 H A mem run .pre (to-store l₉ β δ (zs .1 .1 .1 .1 .1 .1 .1 .0) n v))) (asked-store l₉ β δ (zs .1 .1 .1 .1 .1 .1 .1 .0) (zs .1 .1 .1 .1 .1 .1 .1 .1 .0) r n v said counts) $
+        move ! (3 ∷ []) $ lft-end ! tt $ move ! (0 ∷ 14 ∷ 9 ∷ []) $ use3 W (later (‵ (LA.Lies u16 size l₉ (zs .1 .1 .1 .1 .1 .1 .1 .0)))) (LA.back u16 size l₉ 𝓤 H A W (α ∷ []) γ (zs .1 .1 .1 .1 .1 .1 .1 .0)) $ await ! tt $ lft-new ! tt (λ β. move ! (1 ∷ []) $ use1 W (later (some (λ (δ : GName). ‵ (ShrSlice (named 1) (β ∷ []) u16 .own (shared l₉ δ (zs .1 .1 .1 .1 .1 .1 .1 .0)) (numv l₉ ∷ [])) ⊛ ‵ (flent (β ∷ []) (LA.Lies u16 size l₉ (zs .1 .1 .1 .1 .1 .1 .1 .0)))))) (LA.shares-out u16 size l₉ 𝓤 H A W (named 1) (β ∷ []) (zs .1 .1 .1 .1 .1 .1 .1 .0) roomN) $ await ! tt $ pick ! (λ δ. split ! $ nothing ! $ move ! (4 ∷ 0 ∷ []) $ fjoin ! $ move ! (1 ∷ 0 ∷ []) $ fjoin ! $ move ! (15 ∷ 0 ∷ []) $ fjoin ! $ nothing ! $ move ! (3 ∷ 0 ∷ []) $ join ! $ move ! (14 ∷ 0 ∷ []) $ join ! $ use2 W (raw (StoreAll 𝓤 H A mem run .pre (to-store l₉ β δ (zs .1 .1 .1 .1 .1 .1 .1 .0) n v))) (asked-store l₉ β δ (zs .1 .1 .1 .1 .1 .1 .1 .0) (zs .1 .1 .1 .1 .1 .1 .1 .1 .0) r n v said counts) $
         calls-at ! fm (StoreAll 𝓤 H A mem run) known-store (to-store l₉ β δ (zs .1 .1 .1 .1 .1 .1 .1 .0) n v) (and-then ! (load ! (from ! (stop !)) (look ! 17 refl)) (and-then ! (load ! (from ! (stop !)) (look ! 13 refl)) (and-then ! (load ! (from ! (stop !)) (look ! 33 refl)) (no-more !)))) (λ u.
         use1 W (later (some (λ (_ : Unit {0}). ((‵ (flft κ₄ q₄) ⊛ ‵ (flft (β ∷ []) fullShare) ⊛ ‵ ftrue) ⊛ ‵ (unit .own tt (u ∷ []))) ⊛ raw (ensured 𝓤 H A store-all.ended (store-all.clauses 𝓤 H A mem run) (κ₄, (β ∷ [], tt)) (store-args l₉ δ (zs .1 .1 .1 .1 .1 .1 .1 .0) n) tt tt)))) (id⊢ 𝓤 _) $ await ! tt $ pick ! (λ _. split ! $ move ! (1 ∷ []) $
         use1 W (some (λ (ws : List Group × (Unit {0} × (Unit {0} × Unit {0}))). ‵ (lasts store-all.ended (κ₄, (β ∷ [], tt)) (store-args l₉ δ (zs .1 .1 .1 .1 .1 .1 .1 .0) n) ws) ⊛ raw (fact 𝓤 (ws .0 ≡ filled n (zs .1 .1 .1 .1 .1 .1 .1 .0) (x-middle .now))))) (id⊢ 𝓤 _) $ pick ! (λ ws. split ! $ move ! (1 ∷ []) $ heard ! (ws .0 ≡ filled n (zs .1 .1 .1 .1 .1 .1 .1 .0) (x-middle .now)) (λ stored. fsplit ! $ move ! (1 ∷ []) $ drop ! $ fsplit ! $ move ! (1 ∷ []) $ feqL ! (λ x-middle-long. move ! (1 ∷ []) $ split ! $ split ! $ move ! (1 ∷ []) $ split ! $ move ! (1 ∷ []) $ drop ! $ move ! (2 ∷ []) $ feqL ! (λ is″. land ! (from ! (stop !)) (init ! 23 refl (subst (λ (z : Val). Holds (hasTy tyUnit z) × WT z) (sym (ap only is″)) (tt, tt))) $
         -- the array is the function's own again, and is left
-        lft-end ! tt $ move ! (0 ∷ 3 ∷ []) $ lent-back ! tt $ use1 W (‵ (froom (tyArray (tyInt w16) 810) l₉ 0)) (LA.room-of u16 810 l₉ 𝓤 H A W (zs .1 .1 .1 .1 .1 .1 .1 .0)) $ assigns ! (of-opd ! (load ! (from ! (stop !)) (look ! 36 refl))) (from ! (stop !)) (init ! 55 refl (typed r w is)) $ returns ! (look ! 55 refl) $
+        lft-end ! tt $ move ! (0 ∷ 3 ∷ []) $ lent-back ! tt $ use1 W (‵ (froom (tyArray (tyInt w16) size) l₉ 0)) (LA.room-of u16 size l₉ 𝓤 H A W (zs .1 .1 .1 .1 .1 .1 .1 .0)) $ assigns ! (of-opd ! (load ! (from ! (stop !)) (look ! 36 refl))) (from ! (stop !)) (init ! 55 refl (typed r w is)) $ returns ! (look ! 55 refl) $
         forget ! 55 refl $ forget ! 53 refl $ forget ! 51 refl $ forget ! 49 refl $ forget ! 47 refl $ forget ! 45 refl $ forget ! 43 refl $ forget ! 41 refl $ forget ! 39 refl $ forget ! 36 refl $ forget ! 34 refl $ forget ! 32 refl $ forget ! 30 refl $ forget ! 28 refl $ forget ! 26 refl $ forget ! 24 refl $ forget ! 22 refl $ forget ! 20 refl $ forget ! 18 refl $ forget ! 16 refl $ forget ! 14 refl $
         move ! (55 ∷ 56 ∷ []) $ free1 ! $ move ! (53 ∷ 54 ∷ []) $ free1 ! $ move ! (51 ∷ 52 ∷ []) $ free1 ! $ move ! (49 ∷ 50 ∷ []) $ free1 ! $ move ! (47 ∷ 48 ∷ []) $ free1 ! $ move ! (45 ∷ 46 ∷ []) $ free1 ! $ move ! (43 ∷ 44 ∷ []) $ free1 ! $ move ! (41 ∷ 42 ∷ []) $ free1 ! $ move ! (39 ∷ 40 ∷ []) $ free1 ! $ move ! (0 ∷ 38 ∷ []) $ free1 ! $ move ! (35 ∷ 36 ∷ []) $ free1 ! $ move ! (33 ∷ 34 ∷ []) $ free1 ! $ move ! (31 ∷ 32 ∷ []) $ free1 ! $ move ! (29 ∷ 30 ∷ []) $ free1 ! $ move ! (27 ∷ 28 ∷ []) $ free1 ! $ move ! (25 ∷ 26 ∷ []) $ free1 ! $ move ! (23 ∷ 24 ∷ []) $ free1 ! $ move ! (21 ∷ 22 ∷ []) $ free1 ! $ move ! (19 ∷ 20 ∷ []) $ free1 ! $ move ! (17 ∷ 18 ∷ []) $ free1 ! $ move ! (15 ∷ 16 ∷ []) $ free1 ! $ move ! (13 ∷ 14 ∷ []) $ free1 ! $ free0 ! $ keep ! (7 ∷ 6 ∷ 5 ∷ 4 ∷ 0 ∷ 3 ∷ 12 ∷ 11 ∷ 10 ∷ 9 ∷ 2 ∷ 1 ∷ 8 ∷ []) $ by ! (exits (zs .1 .1 .1 .1 .1 .1 .1 .0) (zs .1 .1 .1 .1 .1 .1 .1 .1 .0) (ws .0) r w n said counts stored x-middle-long x-starts-long)))))))))))))))))))))))))))))))))))))))))))))
 
