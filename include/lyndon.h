@@ -25,15 +25,15 @@ extern "C" {
 #endif
 
 /* The longest pattern, stored or edited, the longest block of an edit and the longest word of a tree, in bytes. */
-#define LYNDON_MAX_PATTERN 4096
+#define LYNDON_MAX_PATTERN 16384
 #define LYNDON_MAX_BLOCK 256
 #define LYNDON_MAX_TREE 256
 
 /* Rows of these lengths are enough for every pattern and every edit: the bytes of a listing and of a definite length block, the middle
  * groups of an edit. */
-#define LYNDON_MAX_LISTING 77849
-#define LYNDON_MAX_DEFINITE_BLOCK 4102
-#define LYNDON_MAX_MIDDLE 270
+#define LYNDON_MAX_LISTING (25 + 22 * LYNDON_MAX_PATTERN)     /* 360473 */
+#define LYNDON_MAX_DEFINITE_BLOCK (7 + LYNDON_MAX_PATTERN)    /* 16391 */
+#define LYNDON_MAX_MIDDLE (15 + LYNDON_MAX_BLOCK + 1)         /* 272 */
 
 /* The refusals. Of two that apply, the smaller number is answered, but 9 before all others. */
 #define LYNDON_ACCEPTED 0
@@ -131,7 +131,7 @@ lyndon_edit_answer lyndon_edit(const uint8_t *pattern, size_t pattern_len, const
                                const uint8_t *block, size_t block_len, lyndon_group *middle, size_t middle_len,
                                uint16_t *starts, size_t starts_len);
 
-/* The same with the middle groups as numbers. Row `middle`: 3 entries a group, so that 3 * LYNDON_MAX_MIDDLE = 810 are always enough. */
+/* The same with the middle groups as numbers. Row `middle`: 3 entries a group, so that 3 * LYNDON_MAX_MIDDLE = 816 are always enough. */
 lyndon_edit_answer lyndon_edit_numbers(const uint8_t *pattern, size_t pattern_len, const uint16_t *lyndon_array, size_t lyndon_array_len,
                                        const uint16_t *last_factors, size_t last_factors_len, size_t from, size_t to,
                                        const uint8_t *block, size_t block_len, uint16_t *middle, size_t middle_len,

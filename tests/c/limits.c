@@ -8,7 +8,9 @@
 #define N LYNDON_MAX_PATTERN
 
 void test_header(void) {
-    part("the structs of the header");
+    part("the limits and the structs of the header");
+    check(LYNDON_MAX_PATTERN == 16384 && LYNDON_MAX_BLOCK == 256 && LYNDON_MAX_TREE == 256, "the limits");
+    check(LYNDON_MAX_LISTING == 360473 && LYNDON_MAX_DEFINITE_BLOCK == 16391 && LYNDON_MAX_MIDDLE == 272, "the rows that follow");
     check(sizeof(lyndon_group) == 6, "the size of a group");
     check(offsetof(lyndon_group, start) == 0 && offsetof(lyndon_group, length) == 2 && offsetof(lyndon_group, power) == 4, "a group");
     check(sizeof(lyndon_edit_answer) == 48 && offsetof(lyndon_edit_answer, refusal) == 0, "the size of an answer");
@@ -23,7 +25,7 @@ static void equal_letters(void) {
     static uint8_t pattern[N];
     static uint16_t ones[N], places[N];
     static const uint16_t group[] = { 0, 1, N };
-    const char text[] = "start,length,power,word\r\n0,1,4096,61\r\n";
+    const char text[] = "start,length,power,word\r\n0,1,16384,61\r\n";
     memset(pattern, 'a', N);
     for (size_t k = 0; k < N; k++) {
         ones[k] = 1;
@@ -31,25 +33,25 @@ static void equal_letters(void) {
     }
     bytes w = { pattern, N };
     size_t size = sizeof text - 1;
-    check(fills_any_row(FACTOR, w, (told){ 0, { 1, 0 } }, (result){ group, 3 }), "lyndon_factor of 4096");
-    check(fills_any_row(ARRAY, w, (told){ 0, { N, 0 } }, (result){ ones, N }), "lyndon_array of 4096");
-    check(fills_any_row(LAST_FACTORS, w, (told){ 0, { N, 0 } }, (result){ ones, N }), "lyndon_last_factors of 4096");
-    check(fills_any_row(LONGEST_WORDS, w, (told){ 0, { 1, N } }, (result){ places, N }), "lyndon_longest_words of 4096");
-    check(fills_any_row(LONGEST_WORD, w, (told){ 0, { 1, 0 } }, (result){ "a", 1 }), "lyndon_longest_word of 4096");
-    check(fills_any_row(LISTING, w, (told){ 0, { size, 0 } }, (result){ text, size }), "lyndon_write_listing of 4096");
-    check(tells_lyndon(w, 0, false), "lyndon_is_lyndon of 4096");
+    check(fills_any_row(FACTOR, w, (told){ 0, { 1, 0 } }, (result){ group, 3 }), "lyndon_factor of the longest");
+    check(fills_any_row(ARRAY, w, (told){ 0, { N, 0 } }, (result){ ones, N }), "lyndon_array of the longest");
+    check(fills_any_row(LAST_FACTORS, w, (told){ 0, { N, 0 } }, (result){ ones, N }), "lyndon_last_factors of the longest");
+    check(fills_any_row(LONGEST_WORDS, w, (told){ 0, { 1, N } }, (result){ places, N }), "lyndon_longest_words of the longest");
+    check(fills_any_row(LONGEST_WORD, w, (told){ 0, { 1, 0 } }, (result){ "a", 1 }), "lyndon_longest_word of the longest");
+    check(fills_any_row(LISTING, w, (told){ 0, { size, 0 } }, (result){ text, size }), "lyndon_write_listing of the longest");
+    check(tells_lyndon(w, 0, false), "lyndon_is_lyndon of the longest");
     table t = { ones, N };
     for (side s = PREFIX; s <= SUFFIX; s++) {
         size_t position = s == PREFIX ? N : 0;
-        check(takes_part(s, w, t, position, 3, (told){ 0, { 1, 0 } }, (result){ group, 3 }), "%s of 4096", side_name[s]);
+        check(takes_part(s, w, t, position, 3, (told){ 0, { 1, 0 } }, (result){ group, 3 }), "%s of the longest", side_name[s]);
     }
     /* the first 256 letters replaced by the same: nothing kept, one middle group */
     static const uint16_t middle[] = { 0, 1, LYNDON_MAX_BLOCK };
     given g = { w, t, t, 0, LYNDON_MAX_BLOCK, { pattern, LYNDON_MAX_BLOCK } };
     lyndon_edit_answer told = { .kept = 0, .resume = LYNDON_MAX_BLOCK, .groups = 1, .length = 1, .starts = N };
     edited want = { told, middle, places };
-    check(edits_records(&g, 1, N, &want), "lyndon_edit of 4096");
-    check(edits_numbers(&g, 3, N, &want), "lyndon_edit_numbers of 4096");
+    check(edits_records(&g, 1, N, &want), "lyndon_edit of the longest");
+    check(edits_numbers(&g, 3, N, &want), "lyndon_edit_numbers of the longest");
 }
 
 /* All letters but the first are equal, so the least rotation starts behind it. */
@@ -57,21 +59,21 @@ static void longest_rotation(void) {
     static uint8_t pattern[N];
     memset(pattern, 'a', N);
     pattern[0] = 'b';
-    check(tells_rotation((bytes){ pattern, N }, 0, 1), "lyndon_least_rotation of 4096");
+    check(tells_rotation((bytes){ pattern, N }, 0, 1), "lyndon_least_rotation of the longest");
 }
 
 /* A block of the longest pattern fits the row that always is enough, and is read again; so is one with all nine digits. */
 static void longest_block(void) {
-    static uint8_t block[LYNDON_MAX_DEFINITE_BLOCK + 5];
+    static uint8_t block[LYNDON_MAX_DEFINITE_BLOCK + 4];
     memset(block, '\n', sizeof block);
-    memcpy(block, "#44096", 6);
-    bytes w = { block + 6, N };
+    memcpy(block, "#516384", 7);
+    bytes w = { block + 7, N };
     told want = { 0, { LYNDON_MAX_DEFINITE_BLOCK, 0 } };
-    check(fills_any_row(BLOCK, w, want, (result){ block, LYNDON_MAX_DEFINITE_BLOCK }), "lyndon_write_block of 4096");
-    check(reads_block((bytes){ block, LYNDON_MAX_DEFINITE_BLOCK }, (told){ 0, { 6, N } }), "lyndon_read_block of 4096");
-    check(reads_block((bytes){ block, LYNDON_MAX_DEFINITE_BLOCK + 1 }, (told){ 0, { 6, N } }), "lyndon_read_block of 4096, a line feed");
-    memcpy(block, "#9000004096", 11);
-    check(reads_block((bytes){ block, sizeof block }, (told){ 0, { 11, N } }), "lyndon_read_block of 4096, nine digits");
+    check(fills_any_row(BLOCK, w, want, (result){ block, LYNDON_MAX_DEFINITE_BLOCK }), "lyndon_write_block of the longest");
+    check(reads_block((bytes){ block, LYNDON_MAX_DEFINITE_BLOCK }, (told){ 0, { 7, N } }), "lyndon_read_block of the longest");
+    check(reads_block((bytes){ block, LYNDON_MAX_DEFINITE_BLOCK + 1 }, (told){ 0, { 7, N } }), "lyndon_read_block of the longest, a line feed");
+    memcpy(block, "#9000016384", 11);
+    check(reads_block((bytes){ block, sizeof block }, (told){ 0, { 11, N } }), "lyndon_read_block of the longest, nine digits");
 }
 
 /* a .. ab is a Lyndon word; its tree goes down at the right: node 2k holds the letters from k on, each but the last after a leaf. */
@@ -123,13 +125,13 @@ static void long_listing(const uint8_t *pattern, size_t groups) {
     check(refusal == 8 && count == 0, "a listing of %zu groups, a byte too few", groups);
 }
 
-/* 256 falling letters, 16 of each; and the Lyndon words of one and two of the 64 highest letters, falling: 4,096 bytes. */
+/* 256 falling letters, equally many of each; and the Lyndon words of one and two of the 128 highest letters, falling: 16,384 bytes. */
 static void longest_listings(void) {
     static uint8_t pattern[N];
-    for (size_t k = 0; k < N; k++) pattern[k] = (uint8_t)(255 - k / 16);
+    for (size_t k = 0; k < N; k++) pattern[k] = (uint8_t)(255 - k / (N / 256));
     long_listing(pattern, 256);
     size_t n = 0, groups = 0;
-    for (size_t a = 255; a >= 192; a--, groups++) {
+    for (size_t a = 255; a >= 128; a--, groups++) {
         for (size_t b = 255; b > a; b--, groups++) {
             pattern[n++] = (uint8_t)a;
             pattern[n++] = (uint8_t)b;

@@ -4,8 +4,8 @@
 
 #include <string.h>
 
-#define LONG 4097
-#define PLENTY 13000 /* entries: more than any result has */
+#define LONG (LYNDON_MAX_PATTERN + 1)
+#define PLENTY (3 * LONG) /* entries: more than any result has */
 
 static uint8_t letters[LONG + 255];
 
@@ -37,7 +37,7 @@ static void no_table(void) {
     check(tells_rotation(LITERAL("abab"), LYNDON_REPEATED, 0), "lyndon_least_rotation of abab, 10");
     check(tells_rotation(LITERAL("baba"), 10, 0), "lyndon_least_rotation of baba, 10");
     check(tells_rotation(LITERAL("abcabcabc"), 10, 0), "lyndon_least_rotation of abcabcabc, 10");
-    check(tells_rotation(equal_letters(LONG - 1), 10, 0), "lyndon_least_rotation of 4096 equal letters, 10");
+    check(tells_rotation(equal_letters(LONG - 1), 10, 0), "lyndon_least_rotation of the most equal letters, 10");
     check(tells_rotation(equal_letters(LONG), 1, 0), "lyndon_least_rotation, 1 before 10");
 }
 
@@ -51,17 +51,17 @@ static void not_blocks(void) {
     for (size_t k = 0; k < sizeof cases / sizeof *cases; k++) check(reads_block(cases[k], REFUSED(9)), "lyndon_read_block, 9, case %zu", k);
 }
 
-/* A block of 4,097 bytes is refused by 1; with a byte too few, and with one too many, it is none. */
+/* A block of one byte too many is refused by 1; with a byte too few, and with one too many, it is none. */
 static void long_blocks(void) {
-    uint8_t block[6 + LONG + 1];
+    uint8_t block[7 + LONG + 1];
     memset(block, 'a', sizeof block);
-    memcpy(block, "#44097", 6);
-    check(reads_block((bytes){ block, 6 + LONG }, REFUSED(1)), "lyndon_read_block, 1");
-    check(reads_block((bytes){ block, 6 + LONG - 1 }, REFUSED(9)), "lyndon_read_block, 9 before 1, a byte too few");
-    check(reads_block((bytes){ block, 6 + LONG + 1 }, REFUSED(9)), "lyndon_read_block, 9 before 1, a byte too many");
-    check(reads_block((bytes){ block, 6 }, REFUSED(9)), "lyndon_read_block, 9 before 1, no bytes");
-    block[6 + LONG] = '\n';
-    check(reads_block((bytes){ block, 6 + LONG + 1 }, REFUSED(1)), "lyndon_read_block, 1, a line feed");
+    memcpy(block, "#516385", 7);
+    check(reads_block((bytes){ block, 7 + LONG }, REFUSED(1)), "lyndon_read_block, 1");
+    check(reads_block((bytes){ block, 7 + LONG - 1 }, REFUSED(9)), "lyndon_read_block, 9 before 1, a byte too few");
+    check(reads_block((bytes){ block, 7 + LONG + 1 }, REFUSED(9)), "lyndon_read_block, 9 before 1, a byte too many");
+    check(reads_block((bytes){ block, 7 }, REFUSED(9)), "lyndon_read_block, 9 before 1, no bytes");
+    block[7 + LONG] = '\n';
+    check(reads_block((bytes){ block, 7 + LONG + 1 }, REFUSED(1)), "lyndon_read_block, 1, a line feed");
 }
 
 static void tree(void) {
@@ -121,7 +121,7 @@ static const edit_case edits[] = {
     { 10, 10, 10, SIZE_MAX, SIZE_MAX, 0, 300, PLENTY, 2 },
     { 10, 10, 10, SIZE_MAX, 0, 0, 300, PLENTY, 2 },
     { 10, 10, 10, 0, 10, 257, 300, PLENTY, 3 },
-    { 4096, 4096, 4096, 0, 0, 1, 300, PLENTY, 4 },
+    { LONG - 1, LONG - 1, LONG - 1, 0, 0, 1, 300, PLENTY, 4 },
     { 10, 9, 10, 0, 0, 1, 300, PLENTY, 5 },
     { 10, 10, 9, 0, 0, 1, 300, PLENTY, 5 },
     { 10, 0, 10, 0, 0, 1, 300, PLENTY, 5 },
@@ -129,11 +129,11 @@ static const edit_case edits[] = {
     { 10, 10, 10, 0, 0, 1, 300, 10, 8 },
     /* with all later ones */
     { LONG, 0, 0, SIZE_MAX, 0, 257, 0, 0, 1 },
-    { 4096, 0, 0, 2, 1, 257, 0, 0, 2 },
-    { 4096, 0, 0, 1, 1, 257, 0, 0, 3 },
-    { 4096, 0, 0, 1, 1, 256, 0, 0, 4 },
-    { 4096, 0, 0, 0, 256, 256, 0, 0, 5 },
-    { 4096, 4096, 4096, 0, 256, 256, 0, 0, 8 },
+    { LONG - 1, 0, 0, 2, 1, 257, 0, 0, 2 },
+    { LONG - 1, 0, 0, 1, 1, 257, 0, 0, 3 },
+    { LONG - 1, 0, 0, 1, 1, 256, 0, 0, 4 },
+    { LONG - 1, 0, 0, 0, 256, 256, 0, 0, 5 },
+    { LONG - 1, LONG - 1, LONG - 1, 0, 256, 256, 0, 0, 8 },
 };
 
 static void refused_edits(void) {

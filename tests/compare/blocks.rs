@@ -4,11 +4,12 @@ use crate::block_oracle::{extent, read_holds};
 use crate::calls;
 use crate::engine;
 use crate::lent::Lent;
+use crate::right::LIMIT;
 use crate::short::every_word;
 use crate::tally::{Random, Tally, show};
 
-/// The bytes of a block of the longest pattern.
-const ROOM: usize = 4102;
+/// The bytes of a block of the longest pattern, whose header has seven.
+const ROOM: usize = LIMIT + 7;
 
 /// What a changed or added byte may be: digits, what stands beside them, signs, letters, ends of lines, high bytes.
 const ODD: &[u8] = b"#0123456789/:+- a\r\n,\0\x80\xB1\xFF";
@@ -23,7 +24,7 @@ const EXAMPLES: [Example; 36] = [
     (b"", 9, 0, 0), (b"#", 9, 0, 0), (b"#1", 9, 0, 0), (b"\n", 9, 0, 0), (b"#0", 9, 0, 0), (b"#0abc\n", 9, 0, 0), (b"#00", 9, 0, 0),
     (b"#10\n\n", 9, 0, 0), (b"#10\r\n", 9, 0, 0), (b"#11", 9, 0, 0), (b"#11ab", 9, 0, 0), (b"#11a\r\n", 9, 0, 0), (b" #11a", 9, 0, 0),
     (b"#21a", 9, 0, 0), (b"#2 1a", 9, 0, 0), (b"#2+1a", 9, 0, 0), (b"#1:aaaaaaaaaa", 9, 0, 0), (b"#a", 9, 0, 0), (b"#:0000000000", 9, 0, 0),
-    (b"#44097", 9, 0, 0), (b"#9999999999", 9, 0, 0), (b"#565539abc", 9, 0, 0),
+    (b"#516385", 9, 0, 0), (b"#9999999999", 9, 0, 0), (b"#565539abc", 9, 0, 0),
 ];
 
 fn examples(t: &mut Tally) {
@@ -126,7 +127,7 @@ fn damaged(t: &mut Tally, r: &mut Random, block: &[u8]) {
 /// Counts that the bytes behind them are far too few for, some of which 16 bits take for the right one.
 fn short_of_bytes(t: &mut Tally, bytes: &[u8]) {
     let n = bytes.len();
-    for count in [n + 1, n + 10, n + 256, n + 4096, n + 65_536, n + 131_072, 99_999_999 - n, 999_999_999 - n, 999_999_999] {
+    for count in [n + 1, n + 10, n + 256, n + LIMIT, n + 65_536, n + 131_072, 99_999_999 - n, 999_999_999 - n, 999_999_999] {
         for digits in count.to_string().len()..=9 {
             read(t, &[format!("#{digits}{count:0digits$}").as_bytes(), bytes].concat());
         }
@@ -135,8 +136,8 @@ fn short_of_bytes(t: &mut Tally, bytes: &[u8]) {
 
 /// Blocks with 1 to 9 digits around each number of digits and the longest pattern, whole, cut at every place and damaged.
 pub fn headers(t: &mut Tally, r: &mut Random) {
-    let long = r.bytes(5000);
-    for n in [0, 1, 2, 9, 10, 11, 99, 100, 999, 1000, 4095, 4096, 4097, 5000] {
+    let long = r.bytes(LIMIT + 904);
+    for n in [0, 1, 2, 9, 10, 11, 99, 100, 999, 1000, 9999, 10_000, LIMIT - 1, LIMIT, LIMIT + 1, LIMIT + 904] {
         for digits in 1..=9 {
             for close in ["", "\n"] {
                 if let Some(block) = block(digits, &long[..n], close) {
@@ -158,7 +159,7 @@ fn contents(r: &mut Random, n: usize) -> Vec<u8> {
 pub fn random(t: &mut Tally, r: &mut Random, blocks: usize) {
     for _ in 0..blocks {
         let digits = 1 + r.below(9);
-        let most = [10, 40, 40, 40, 300, 5001][r.below(6)].min(10_usize.pow(digits as u32));
+        let most = [10, 40, 40, 40, 300, LIMIT + 905][r.below(6)].min(10_usize.pow(digits as u32));
         let n = r.below(most);
         let bytes = contents(r, n);
         let whole = block(digits, &bytes, ["", "\n"][r.below(2)]).expect("the digits are enough");
@@ -184,12 +185,12 @@ fn round_trip(t: &mut Tally, pattern: &[u8]) {
 
 /// Patterns of every length to two over the longest.
 pub fn lengths(t: &mut Tally, r: &mut Random) {
-    let long = contents(r, 4098);
-    for n in 0..=4098 {
+    let long = contents(r, LIMIT + 2);
+    for n in 0..=LIMIT + 2 {
         t.words += 1;
         let pattern = &long[long.len() - n..];
         calls::write_block(t, pattern);
-        if n <= 4096 {
+        if n <= LIMIT {
             round_trip(t, pattern);
         }
     }

@@ -6,18 +6,18 @@ use crate::engine::{self, Given, Group};
 use crate::families::{A, B};
 use crate::fast::FAST;
 use crate::loops;
-use crate::right::Facts;
+use crate::right::{Facts, LIMIT};
 use crate::tally::{Random, Tally, show};
 
 const MAX: usize = usize::MAX;
 
 fn row() -> Vec<u16> {
-    vec![0; 3 * 4100]
+    vec![0; 3 * (LIMIT + 4)]
 }
 
 /// A buffer for every listing.
 fn text() -> Vec<u8> {
-    vec![0; 77_849]
+    vec![0; 25 + 22 * LIMIT]
 }
 
 fn says(t: &mut Tally, what: &str, n: usize, got: u8, want: u8) {
@@ -26,10 +26,10 @@ fn says(t: &mut Tally, what: &str, n: usize, got: u8, want: u8) {
 
 /// Both edit calls, with plenty of room.
 fn edit(t: &mut Tally, f: &Facts, g: &Given, want: u8) {
-    let mut middle = vec![Group { start: 0, length: 0, power: 0 }; 4100];
+    let mut middle = vec![Group { start: 0, length: 0, power: 0 }; LIMIT + 4];
     let got = [engine::edit(g, &mut middle, &mut row()).refusal, engine::edit_numbers(g, &mut row(), &mut row()).refusal];
     t.equal(&got, &[want; 2], || edits::describe(g));
-    if g.pattern.len() <= 4097 {
+    if g.pattern.len() <= LIMIT + 1 {
         edits::compare(t, &FAST, f, g);
     } else {
         t.edit(false);
@@ -40,7 +40,7 @@ fn whole<'a>(w: &'a [u8], f: &'a Facts, from: usize, to: usize, block: &'a [u8])
     Given { pattern: w, array: &f.array, last: &f.last, from, to, block }
 }
 
-/// 1: 4,096 accepted, 4,097 refused, and lengths that 16 bits take for short ones. The tree has its own limit.
+/// 1: the longest pattern accepted, one byte more refused, and lengths that 16 bits take for short ones. The tree has its own limit.
 fn pattern(t: &mut Tally, w: &[u8], f: &Facts, want: u8) {
     let n = w.len();
     t.words += 1;
@@ -56,7 +56,7 @@ fn pattern(t: &mut Tally, w: &[u8], f: &Facts, want: u8) {
     says(t, "factor_prefix", n, engine::factor_prefix(w, &f.last, 3, &mut row()).0, want);
     says(t, "factor_suffix", n, engine::factor_suffix(w, &f.array, 3, &mut row()).0, want);
     says(t, "tree", n, engine::tree(w, &mut row()).0, 6);
-    let (number, size) = engine::longest_word(w, &mut vec![0; 4100]);
+    let (number, size) = engine::longest_word(w, &mut vec![0; LIMIT + 4]);
     says(t, "longest_word", n, number, 0);
     t.check((size[0] == 0) == (want == 1), || format!("longest_word of {n} bytes has {}", size[0]));
     edit(t, f, &whole(w, f, 0, 600, &[]), want);
@@ -85,9 +85,9 @@ fn positions(t: &mut Tally, w: &[u8]) {
     }
 }
 
-/// 3: a block of 256 is accepted. 4: an edited pattern of 4,096 is.
+/// 3: a block of 256 is accepted. 4: an edited pattern of the greatest length is.
 fn blocks(t: &mut Tally, long: &[u8]) {
-    let block = long.repeat(16);
+    let block = long.repeat(65_536 / LIMIT);
     for (n, from, to, size, want) in [
         (0, 0, 0, 256, 0),
         (0, 0, 0, 257, 3),
@@ -95,18 +95,18 @@ fn blocks(t: &mut Tally, long: &[u8]) {
         (13, 5, 9, 256, 0),
         (13, 5, 9, 257, 3),
         (13, 5, 9, 65_536, 3),
-        (4096, 0, 4096, 256, 0),
-        (4096, 0, 4096, 257, 3),
-        (4096, 17, 17, 0, 0),
-        (4096, 17, 17, 1, 4),
-        (4096, 4096, 4096, 1, 4),
-        (4095, 4095, 4095, 1, 0),
-        (4095, 0, 0, 2, 4),
-        (4096, 100, 356, 256, 0),
-        (4096, 100, 355, 256, 4),
-        (3840, 9, 9, 256, 0),
-        (3841, 9, 9, 256, 4),
-        (3841, 9, 10, 256, 0),
+        (LIMIT, 0, LIMIT, 256, 0),
+        (LIMIT, 0, LIMIT, 257, 3),
+        (LIMIT, 17, 17, 0, 0),
+        (LIMIT, 17, 17, 1, 4),
+        (LIMIT, LIMIT, LIMIT, 1, 4),
+        (LIMIT - 1, LIMIT - 1, LIMIT - 1, 1, 0),
+        (LIMIT - 1, 0, 0, 2, 4),
+        (LIMIT, 100, 356, 256, 0),
+        (LIMIT, 100, 355, 256, 4),
+        (LIMIT - 256, 9, 9, 256, 0),
+        (LIMIT - 255, 9, 9, 256, 4),
+        (LIMIT - 255, 9, 10, 256, 0),
     ] {
         let w = &long[..n];
         let f = (FAST.facts)(w);
@@ -136,7 +136,7 @@ fn trees(t: &mut Tally) {
     let half = up(128).repeat(2);
     #[rustfmt::skip]
     let all = [
-        (up(255), 0), (up(256), 0), (ramp, 0), (up(257), 6), (up(4097), 6), (up(65_637), 6), (vec![A; 65_537], 6),
+        (up(255), 0), (up(256), 0), (ramp, 0), (up(257), 6), (up(LIMIT + 1), 6), (up(65_637), 6), (vec![A; 65_537], 6),
         (vec![], 7), (vec![A], 0), (vec![A, A], 7), (vec![B, A], 7), (vec![A, B], 0), (half, 7), (vec![A; 256], 7),
     ];
     for (w, want) in all {
@@ -174,17 +174,18 @@ fn rows(t: &mut Tally) {
     say("edit_numbers, starts", 4, &|row| engine::edit_numbers(&g, &mut [0; 6], row).refusal);
 }
 
-/// 10: a word twice, three times and 4,096 times is refused; once, or with a byte changed, added or taken away, it is not. Over 4,096 bytes
-/// it is 1.
+/// 10: a word twice, three times and a byte over and over is refused; once, or with a byte changed, added or taken away, it is not. A word of
+/// 3,277 bytes has one too many when it comes five times: it is 1.
 fn repeated(t: &mut Tally, long: &[u8]) {
-    let mut changed = long[..2048].repeat(2);
-    changed[3000] ^= 0xFF;
+    let half = LIMIT / 2;
+    let mut changed = long[..half].repeat(2);
+    changed[half + 952] ^= 0xFF;
     #[rustfmt::skip]
     let all = [
         (vec![], 0), (vec![A], 0), (vec![A, A], 10), (vec![A, B], 0), (b"abab".to_vec(), 10), (b"baab".to_vec(), 0),
         (b"abcabcabc".to_vec(), 10), (b"abcabcab".to_vec(), 0), (b"abcabcabca".to_vec(), 0), (b"abcabdabc".to_vec(), 0),
-        (vec![A; 4096], 10), (vec![A; 4097], 1), (long[..2048].repeat(2), 10), (changed, 0), (long[..2047].repeat(2), 10),
-        (long[..1365].repeat(3), 10), (long[..1365].repeat(3)[1..].to_vec(), 0), (long[..241].repeat(17), 1), (long[..4096].to_vec(), 0),
+        (vec![A; LIMIT], 10), (vec![A; LIMIT + 1], 1), (long[..half].repeat(2), 10), (changed, 0), (long[..half - 1].repeat(2), 10),
+        (long[..5461].repeat(3), 10), (long[..5461].repeat(3)[1..].to_vec(), 0), (long[..3277].repeat(5), 1), (long[..LIMIT].to_vec(), 0),
     ];
     for (w, want) in all {
         t.equal(&engine::least_rotation(&w).0, &want, || format!("least_rotation of {}", show(&w)));
@@ -194,15 +195,16 @@ fn repeated(t: &mut Tally, long: &[u8]) {
 
 pub fn all(t: &mut Tally, r: &mut Random) {
     let long = r.letters(&[A, B], 65_536 + 700);
-    for (n, tabled, want) in [(4095, 4095, 0), (4096, 4096, 0), (4097, 4097, 1), (65_536, 9, 1), (long.len(), 700, 1)] {
+    for (n, tabled, want) in [(LIMIT - 1, LIMIT - 1, 0), (LIMIT, LIMIT, 0), (LIMIT + 1, LIMIT + 1, 1), (65_536, 9, 1), (long.len(), 700, 1)]
+    {
         pattern(t, &long[..n], &(FAST.facts)(&long[..tabled]), want);
     }
-    for n in [0, 1, 13, 4096] {
+    for n in [0, 1, 13, LIMIT] {
         positions(t, &long[..n]);
     }
-    blocks(t, &long[..4096]);
+    blocks(t, &long[..LIMIT]);
     tables(t, &long[..13]);
-    tables(t, &long[..4096]);
+    tables(t, &long[..LIMIT]);
     trees(t);
     rows(t);
     repeated(t, &long);

@@ -106,7 +106,7 @@ pub fn random(t: &mut Tally, r: &mut Random, count: usize) {
     }
 }
 
-/// Words of the longest lengths that are accepted; 4,097 bytes of the same are refused, and so is a block of 257.
+/// Words of the longest lengths that are accepted; one byte more of the same is refused, and so is a block of 257.
 pub fn words(t: &mut Tally, r: &mut Random, n: usize) {
     for (family, w) in families(n, r) {
         t.origin = format!("{family}, {n} bytes: ");

@@ -2,6 +2,7 @@
 use crate::calls;
 use crate::fast;
 use crate::oracle;
+use crate::right::LIMIT;
 use crate::short::every_word;
 use crate::tally::{Random, Tally, show};
 
@@ -46,7 +47,7 @@ pub fn short(t: &mut Tally, letters: &[u8], length: usize) {
 /// Random words repeated to about the longest pattern, by every divisor of its length, and next to it. The letters are 7F and 80, which a
 /// change of all bits exchanges.
 pub fn long(t: &mut Tally, r: &mut Random, letters: &[u8]) {
-    for n in 4085..=4100_usize {
+    for n in LIMIT - 11..=LIMIT + 4 {
         t.origin = format!("{n} bytes: ");
         for size in (1..=n).filter(|size| n % size == 0) {
             let w = r.letters(letters, size).repeat(n / size);

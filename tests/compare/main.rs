@@ -21,6 +21,7 @@ mod short;
 mod tables;
 mod tally;
 
+use right::LIMIT;
 use std::process::ExitCode;
 use tally::{Random, Run};
 
@@ -51,11 +52,13 @@ fn main() -> ExitCode {
     for n in [256, 257] {
         run.part(&format!("ten families of {n} bytes, from their phase marks on too"), |t| short::medium(t, r, n));
     }
-    for n in [4095, 4096, 4097] {
+    for n in [LIMIT - 1, LIMIT, LIMIT + 1] {
         run.part(&format!("ten families of {n} bytes"), |t| long::words(t, r, n));
     }
     run.part("every two-letter word to length 5 repeated to 48 bytes, a byte changed, added or taken away", |t| loops::short(t, TWO, 5));
-    run.part("words repeated to about 4,096 bytes by every divisor, a byte changed, added or taken away", |t| loops::long(t, r, TWO));
+    run.part("words repeated to about the longest pattern by every divisor, a byte changed, added or taken away", |t| {
+        loops::long(t, r, TWO)
+    });
     run.part("tables with one entry changed or missing, two letters to length 6", |t| tables::wrong(t, TWO, 6));
     run.part("tables with one entry changed or missing, three letters to length 4", |t| tables::wrong(t, THREE, 4));
     run.part("the edge of each refusal", |t| edges::all(t, r));
@@ -69,7 +72,7 @@ fn main() -> ExitCode {
         listed::seams(t, TWO, 3)
     });
     run.part("the edited listing of random words to 70 bytes", |t| listed::random(t, r, 1_000));
-    for n in [4095, 4096] {
+    for n in [LIMIT - 1, LIMIT] {
         run.part(&format!("the edited listing of ten families of {n} bytes"), |t| listed::words(t, r, n));
     }
     if run.finish() { ExitCode::SUCCESS } else { ExitCode::FAILURE }

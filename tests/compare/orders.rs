@@ -9,12 +9,12 @@ use crate::families::{A, B};
 use crate::fast::{self, FAST};
 use crate::lent::Entry;
 use crate::loops;
-use crate::right::{Edit, Facts, Holds, edit_holds, flat, mark_holds, part_holds, pattern_holds, tree_holds};
+use crate::right::{Edit, Facts, Holds, LIMIT, edit_holds, flat, mark_holds, part_holds, pattern_holds, tree_holds};
 use crate::tally::{Random, Tally};
 use std::collections::HashSet;
 use std::fmt::Debug;
 
-const PLENTY: usize = 3 * 4100;
+const PLENTY: usize = 3 * (LIMIT + 4);
 
 /// The sets of refusals met.
 type Met = HashSet<Holds>;
@@ -78,10 +78,10 @@ fn blocks_read(t: &mut Tally, w: &[u8]) {
     every_pair(t, "read_block", &met, &[9, 1]);
 }
 
-/// A word of 241 bytes has 4,097 when it comes 17 times.
+/// A word of 3,277 bytes has one too many when it comes five times.
 fn marks(t: &mut Tally, w: &[u8]) {
     let mut met = Met::new();
-    for looped in [&w[..241].repeat(17), &w[..241].repeat(16), &vec![A; 4097], w] {
+    for looped in [&w[..3277].repeat(5), &w[..3277].repeat(4), &vec![A; LIMIT + 1], w] {
         met.insert(mark_holds(looped.len(), fast::repeated(looped)));
         loops::mark(t, looped);
     }
@@ -158,8 +158,8 @@ fn edit(t: &mut Tally, met: &mut Met, w: &[u8], f: &Facts, r: &mut Random) {
 }
 
 pub fn all(t: &mut Tally, r: &mut Random) {
-    let long = r.letters(&[A, B], 4097);
-    let words = [&long[..4096], &long[..]].map(|w| (w, (FAST.facts)(w)));
+    let long = r.letters(&[A, B], LIMIT + 1);
+    let words = [&long[..LIMIT], &long[..]].map(|w| (w, (FAST.facts)(w)));
     plain(t, words[1].0, &words[1].1);
     blocks_read(t, words[1].0);
     marks(t, words[1].0);

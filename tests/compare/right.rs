@@ -1,7 +1,7 @@
 //! What the naive and the fast version both answer, and which refusals hold.
 use crate::engine::{Given, Group};
 
-pub const LIMIT: usize = 4096;
+pub const LIMIT: usize = 16_384;
 pub const BLOCK_LIMIT: usize = 256;
 pub const TREE_LIMIT: usize = 256;
 

@@ -9,6 +9,7 @@ import tempfile
 HEADER = b"start,length,power,word\r\n"
 EDIT = b"from,to\r\n"
 SHEET = b"acbabcabcabac"
+LIMIT = 16384
 
 
 def is_lyndon(w):
@@ -52,11 +53,11 @@ def refused(number):
 
 
 def listing(s):
-    return refused(1) if len(s) > 4096 else HEADER + lines(factors(s))
+    return refused(1) if len(s) > LIMIT else HEADER + lines(factors(s))
 
 
 def edited(s, b, csv):
-    if len(s) > 4096:
+    if len(s) > LIMIT:
         return refused(1)
     m = re.fullmatch(rb"from,to\r\n([0-9]{1,5}),([0-9]{1,5})\r\n", csv)
     if not m or not int(m[1]) <= int(m[2]) <= len(s):
@@ -65,7 +66,7 @@ def edited(s, b, csv):
     if len(b) > 256:
         return refused(3)
     e = s[:f] + b + s[t:]
-    return refused(4) if len(e) > 4096 else listing(e)
+    return refused(4) if len(e) > LIMIT else listing(e)
 
 
 def run(program, stdin, files):
@@ -84,13 +85,13 @@ def run(program, stdin, files):
 
 def listing_cases():
     rnd = random.Random(5)
-    full = bytes(rnd.randrange(256) for _ in range(4096))
+    full = bytes(rnd.randrange(256) for _ in range(LIMIT))
     pairs = [bytes([x, y]) for x in range(255, -1, -1) for y in range(255, x, -1)]
     yield "the worked example", SHEET, listing(SHEET)
     yield "the worked example, literally", SHEET, HEADER + b"0,3,1,616362\r\n3,3,2,616263\r\n9,4,1,61626163\r\n"
-    for name, s in [("empty", b""), ("4,096 bytes", full), ("4,097 bytes", full + b"a"), ("65,549 bytes", bytes(65549)),
-                    ("high bytes", bytes([0x7F, 0x80, 0x80, 0x7F, 255, 0, 255])), ("many groups", bytes(255 - i // 16 for i in range(4080))),
-                    ("2,048 groups of two bytes", b"".join(pairs[:2048])), ("one group", b"a" * 4096), ("a line feed counts", b"ab\n")]:
+    for name, s in [("empty", b""), ("4,097 bytes", full[:4097]), ("the longest", full), ("one byte too many", full + b"a"), ("65,549 bytes", bytes(65549)),
+                    ("high bytes", bytes([0x7F, 0x80, 0x80, 0x7F, 255, 0, 255])), ("many groups", bytes(255 - i // 64 for i in range(16320))),
+                    ("8,192 groups of two bytes", b"".join(pairs[:8192])), ("one group", b"a" * LIMIT), ("a line feed counts", b"ab\n")]:
         yield name, s, listing(s)
     for i in range(100):
         s = bytes(rnd.choice(b"ab\x80") for _ in range(rnd.randrange(30)))
@@ -99,7 +100,7 @@ def listing_cases():
 
 def edited_cases():
     rnd = random.Random(6)
-    full = bytes(rnd.randrange(256) for _ in range(4096))
+    full = bytes(rnd.randrange(256) for _ in range(LIMIT))
     for name, s, b, row, want in [("joined at both seams", b"aa", b"a", b"1,1", b"0,1,3,61\r\n"),
                                   ("joined at both seams, longer words", SHEET, b"abc", b"6,6", b"0,3,1,616362\r\n3,3,3,616263\r\n12,4,1,61626163\r\n"),
                                   ("joined at the first seam", b"aba", b"ab", b"2,2", b"0,2,2,6162\r\n4,1,1,61\r\n"),
@@ -107,11 +108,11 @@ def edited_cases():
                                   ("joined through an empty middle", b"abaaab", b"", b"2,4", b"0,2,2,6162\r\n"),
                                   ("joined where nothing changes", b"aa", b"", b"1,1", b"0,1,2,61\r\n"),
                                   ("different words of equal length at both seams", b"ca", b"b", b"1,1", b"0,1,1,63\r\n1,1,1,62\r\n2,1,1,61\r\n"),
-                                  ("4,096 equal words over both seams", b"a" * 3840, b"a" * 256, b"2000,2000", b"0,1,4096,61\r\n")]:
+                                  ("16,384 equal words over both seams", b"a" * 16128, b"a" * 256, b"12000,12000", b"0,1,16384,61\r\n")]:
         yield name, {"pattern.bin": s, "block.bin": b, "edit.csv": EDIT + row + b"\r\n"}, HEADER + want
     for name, s, b, row in [("P5", SHEET, b"b", b"5,6"), ("P6", SHEET, b"a", b"11,11"), ("P13, leading zeros", b"aba", b"c", b"00003,3"),
-                            ("emptied", SHEET, b"", b"0,13"), ("full size", full, full[:256], b"1000,1256"), ("4", full, b"xx", b"5,5"),
-                            ("3", SHEET, bytes(257), b"0,1"), ("3 before 4", full, bytes(257), b"5,5"), ("2 before 3", SHEET, bytes(257), b"5,4"), ("past the end", SHEET, b"", b"0,14"), ("4,096 starts", b"a" * 4096, b"", b"0,0"),
+                            ("emptied", SHEET, b"", b"0,13"), ("full size", full, full[:256], b"15000,15256"), ("4", full, b"xx", b"5,5"),
+                            ("3", SHEET, bytes(257), b"0,1"), ("3 before 4", full, bytes(257), b"5,5"), ("2 before 3", SHEET, bytes(257), b"5,4"), ("past the end", SHEET, b"", b"0,14"), ("as many starts as there may be", b"a" * LIMIT, b"", b"0,0"),
                             ("256 middle groups", b"", bytes(range(255, -1, -1)), b"0,0")]:
         csv = EDIT + row + b"\r\n"
         yield name, {"pattern.bin": s, "block.bin": b, "edit.csv": csv}, edited(s, b, csv)

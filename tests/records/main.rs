@@ -46,10 +46,13 @@ impl Tally {
 
     /// A refused edit, with rows that are long enough for any result and with empty ones.
     fn refuses(&mut self, name: &str, e: &Edit, number: u8) {
-        self.check(name, "long rows", both_hold(e, 270, 4096, &Err(number)));
+        self.check(name, "long rows", both_hold(e, 272, LIMIT, &Err(number)));
         self.check(name, "empty rows", both_hold(e, 0, 0, &Err(number)));
     }
 }
+
+/// The longest pattern, stored or edited.
+const LIMIT: usize = 16_384;
 
 const S: &[u8] = b"acbabcabcabac";
 
@@ -101,21 +104,21 @@ fn places(t: &mut Tally) {
 
 /// The longest pattern, block and edited pattern that are accepted.
 fn limits(t: &mut Tally) {
-    let (n, all): (usize, Vec<u16>) = (4096, (0..4096).collect());
-    let reaching = |resume| Answer { kept: 0, resume, middle: vec![[0, 4096, 1]], length: 4096, starts: vec![0] };
-    t.accepts("4096 bytes, last 256 replaced", &Edit::of_equal(n, 3840, n, &[b'b'; 256]), reaching(4096));
-    t.accepts("3840 bytes, 256 more", &Edit::of_equal(3840, 3840, 3840, &[b'b'; 256]), reaching(3840));
+    let (n, all): (usize, Vec<u16>) = (LIMIT, (0..LIMIT as u16).collect());
+    let reaching = |resume| Answer { kept: 0, resume, middle: vec![[0, LIMIT as u16, 1]], length: LIMIT, starts: vec![0] };
+    t.accepts("the longest, last 256 replaced", &Edit::of_equal(n, n - 256, n, &[b'b'; 256]), reaching(n));
+    t.accepts("to the longest by 256 more", &Edit::of_equal(n - 256, n - 256, n - 256, &[b'b'; 256]), reaching(n - 256));
     let same = Answer { kept: n, resume: n, middle: vec![], length: 1, starts: all.clone() };
-    t.accepts("4096 bytes, nothing at the end", &Edit::of_equal(n, n, n, b""), same);
+    t.accepts("the longest, nothing at the end", &Edit::of_equal(n, n, n, b""), same);
     let first = Answer { kept: 0, resume: 1, middle: vec![[0, 1, 1]], length: 1, starts: all };
-    t.accepts("4096 bytes, the first replaced", &Edit::of_equal(n, 0, 1, b"b"), first);
+    t.accepts("the longest, the first replaced", &Edit::of_equal(n, 0, 1, b"b"), first);
     let gone = Answer { kept: 0, resume: n, middle: vec![], length: 0, starts: vec![] };
-    t.accepts("4096 bytes gone", &Edit::of_equal(n, 0, n, b""), gone);
-    t.refuses("4097 bytes", &Edit::of_equal(4097, 0, 4097, b""), 1);
+    t.accepts("the longest gone", &Edit::of_equal(n, 0, n, b""), gone);
+    t.refuses("a byte too many", &Edit::of_equal(n + 1, 0, n + 1, b""), 1);
     t.refuses("to one past the end", &Edit::of_equal(n, 0, n + 1, b""), 2);
     t.refuses("a block of 257", &Edit::of_equal(10, 0, 10, &[b'b'; 257]), 3);
-    t.refuses("edited to 4097", &Edit::of_equal(3841, 3841, 3841, &[b'b'; 256]), 4);
-    t.refuses("edited to 4097 by one byte", &Edit::of_equal(n, 7, 7, b"a"), 4);
+    t.refuses("edited to a byte too many", &Edit::of_equal(n - 255, n - 255, n - 255, &[b'b'; 256]), 4);
+    t.refuses("edited to a byte too many by one byte", &Edit::of_equal(n, 7, 7, b"a"), 4);
 }
 
 /// Stretches that are none, and tables that are not the pattern's.
@@ -149,12 +152,12 @@ fn refusals(t: &mut Tally) {
 fn order(t: &mut Tally) {
     let bare = |n, from, to, block: usize| Edit { array: vec![], last: vec![], ..Edit::of_equal(n, from, to, &vec![b'b'; block]) };
     let edits = [
-        (1, bare(4097, usize::MAX, 0, 257)),
-        (2, bare(4096, 2, 1, 257)),
-        (3, bare(4096, 1, 1, 257)),
-        (4, bare(4096, 1, 1, 256)),
-        (5, bare(4096, 0, 256, 256)),
-        (8, Edit::of_equal(4096, 0, 256, &[b'b'; 256])),
+        (1, bare(LIMIT + 1, usize::MAX, 0, 257)),
+        (2, bare(LIMIT, 2, 1, 257)),
+        (3, bare(LIMIT, 1, 1, 257)),
+        (4, bare(LIMIT, 1, 1, 256)),
+        (5, bare(LIMIT, 0, 256, 256)),
+        (8, Edit::of_equal(LIMIT, 0, 256, &[b'b'; 256])),
     ];
     for (number, e) in edits {
         t.check("the first refusal", &number.to_string(), both_hold(&e, 0, 0, &Err(number)));

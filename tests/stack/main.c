@@ -103,15 +103,15 @@ static const row rows[] = {
     { "lyndon_longest_words", run_longest_words, N, 1024, 0 },
     { "lyndon_longest_word", run_longest_word, N, 1024, 0 },
     { "lyndon_is_lyndon", run_is_lyndon, N, 1024, 0 },
-    { "lyndon_least_rotation", run_least_rotation, N, 16384, 0 },
+    { "lyndon_least_rotation", run_least_rotation, N, 40960, 0 },
     { "lyndon_tree", run_tree, LYNDON_MAX_TREE, 32768, 24576 },
     { "lyndon_factor_prefix", run_prefix, N, 1024, 0 },
     { "lyndon_factor_suffix", run_suffix, N, 1024, 0 },
     { "lyndon_write_listing", run_listing, N, 1024, 0 },
     { "lyndon_read_block", run_read_block, N, 1024, 0 },
     { "lyndon_write_block", run_write_block, N, 1024, 0 },
-    { "lyndon_edit", run_edit, N, 16384, 0 },
-    { "lyndon_edit_numbers", run_edit_numbers, N, 16384, 0 },
+    { "lyndon_edit", run_edit, N, 24576, 0 },
+    { "lyndon_edit_numbers", run_edit_numbers, N, 24576, 0 },
 };
 
 /* Stretch and block: the pattern's middle, its front, its end and all of it; none, one and 256 bytes, as many of them as fit. */

@@ -8,8 +8,11 @@ import sys
 import tempfile
 
 # in KiB; the loader's part counts too
-BOUND = 256
+BOUND = 976
 USUAL = 8192
+
+# the longest pattern, in bytes
+LIMIT = 16384
 
 
 def run(program, limit, stdin, folder):
@@ -21,8 +24,8 @@ def run(program, limit, stdin, folder):
 
 def patterns():
     """One group; as many groups as there are bytes to tell apart; one word; two long words; one byte too many."""
-    n = 4096
-    falling = bytes(255 - k // 16 for k in range(n))
+    n = LIMIT
+    falling = bytes(255 - k * 256 // n for k in range(n))
     return [b"a" * n, falling, b"a" * (n - 1) + b"b", (b"a" * (n // 2 - 1) + b"b") * 2, b"a" * (n + 1)]
 
 
@@ -44,7 +47,7 @@ def smallest(program, cases):
 def folders(top):
     """A folder for each edit of each pattern: at the front, inside and at the end, with the longest block and with none."""
     for i, pattern in enumerate(patterns()):
-        for j, (start, end, block) in enumerate([(0, 256, 256), (2000, 2300, 256), (4096, 4096, 0), (0, 4096, 0), (5, 4, 0)]):
+        for j, (start, end, block) in enumerate([(0, 256, 256), (2000, 2300, 256), (LIMIT, LIMIT, 0), (0, LIMIT, 0), (5, 4, 0)]):
             folder = os.path.join(top, "%d-%d" % (i, j))
             os.mkdir(folder)
             csv = b"from,to\r\n%d,%d\r\n" % (start, end)

@@ -26,9 +26,9 @@ pub example-refused : refuses (codes "") × refuses (codes "#") × refuses (code
 unfolding isBlock bytesPlace bytesCount blockBytes
 example-refused = (refl, refl, refl, refl, refl, refl, refl, refl, refl, refl, refl, refl)
 
--- 4,096 bytes are read, 4,097 are too many, and with a byte too many it is 9 that is told
-pub example-order : (firstOf (readRefusals (codes "#44096" ++ replicate 4096 97)) ≡ 0) × (firstOf (readRefusals (codes "#44097" ++ replicate 4097 97)) ≡ 1)
-    × (firstOf (readRefusals (codes "#44097" ++ replicate 4098 97)) ≡ 9)
+-- 16,384 bytes are read, 16,385 are too many, and with a byte too many it is 9 that is told
+pub example-order : (firstOf (readRefusals (codes "#516384" ++ replicate 16384 97)) ≡ 0) × (firstOf (readRefusals (codes "#516385" ++ replicate 16385 97)) ≡ 1)
+    × (firstOf (readRefusals (codes "#516385" ++ replicate 16386 97)) ≡ 9)
 unfolding isBlock bytesPlace bytesCount blockBytes
 example-order = (refl, refl, refl)
 

@@ -62,8 +62,8 @@ module _ (s : List ℕ) (h : length s ≤ maxPattern) where
   abbrev digits : List ℕ
   digits = decimal (length s)
 
-  pub few-digits : length digits ≤ 4
-  few-digits = omega (arith, length-decimal (length s), count-least (length s) 3 (omega arith))
+  pub few-digits : length digits ≤ 5
+  few-digits = omega (arith, length-decimal (length s), count-least (length s) 4 (omega arith))
 
   pub one-digit : length (decimal (length digits)) ≡ 1
   one-digit = ap length (decimal-one (length digits) (omega (arith, few-digits)))

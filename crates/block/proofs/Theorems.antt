@@ -70,7 +70,7 @@ module _ (s : List ℕ) where
       (first-none b h, block-place b, block-count b, block-holds b)
 
   -- a buffer of this length always suffices
-  pub block-room : length s ≤ maxPattern → length (blockOf s) ≤ 6 + maxPattern
+  pub block-room : length s ≤ maxPattern → length (blockOf s) ≤ 7 + maxPattern
   block-room h = omega (arith, length-block s h, few-digits s h)
 
 -- the digits of a count behind its leading zeros are those of the writer, which are the fewest

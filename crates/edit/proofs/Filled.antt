@@ -43,7 +43,7 @@ pub middle-few : (s : List ℕ) (from to : ℕ) (b : List ℕ) → from ≤ to �
 middle-few s from to b h k l m = omega (arith, middle-bound s from to b h k, bits-grows from maxPattern (omega arith))
 
 -- as a number, for the rows of this room
-pub max-middle : maxMiddle ≡ 270
+pub max-middle : maxMiddle ≡ 272
 unfolding bits
 max-middle = refl
 

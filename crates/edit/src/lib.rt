@@ -13,7 +13,7 @@ ghost use Rattle.seams.specs.Seams.{Accepted};
 ghost use Rattle.edit.specs.Inner.{countOf, maxMiddle, roomRefusals, FillsNumbers};
 
 // The most middle groups of an accepted edit: the binary digits of MAX_PATTERN, the longest block, and one.
-pub const MAX_MIDDLE: usize = 13 + MAX_BLOCK + 1;
+pub const MAX_MIDDLE: usize = 15 + MAX_BLOCK + 1;
 
 // What an accepted edit answers beside the two rows: kept, resume, the number of middle groups, the longest length, the number of starts.
 pub struct Counts {

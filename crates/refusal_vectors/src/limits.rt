@@ -1,12 +1,12 @@
-// The longest patterns: 4,096 bytes are accepted and more are refused with 1; a tree's word of 256 bytes is accepted and more are refused with 6.
+// The longest patterns: 16,384 bytes are accepted and more are refused with 1; a tree's word of 256 bytes is accepted and more are refused with 6.
 use show::calls;
 use show::calls::OLD;
 
 // Every call that has refusal 1. Both questions ask for the groups of the whole pattern.
 fn each_call(pattern: &[u8], table: &mut [u16]) {
     calls::factor(pattern, 4);
-    calls::lyndon_array(pattern, 4097);
-    calls::last_factors(pattern, 4097);
+    calls::lyndon_array(pattern, 16385);
+    calls::last_factors(pattern, 16385);
     calls::longest_words(pattern, 2);
     calls::longest_word(pattern);
     calls::is_lyndon(pattern);
@@ -17,42 +17,42 @@ fn each_call(pattern: &[u8], table: &mut [u16]) {
     calls::factor_suffix(pattern, table, 0, 4);
 }
 
-// a .. a b, one Lyndon word of 4,096 bytes: its Lyndon array is 4096 4095 .. 1, its prefix table 1 1 .. 1 4096.
+// a .. a b, one Lyndon word of 16,384 bytes: its Lyndon array is 16384 16383 .. 1, its prefix table 1 1 .. 1 16384.
 fn accepted() {
-    show::heading(b"4096 bytes: a .. a b");
-    let mut pattern = [b'a'; 4096];
-    pattern[4095] = b'b';
-    each_call(&pattern, &mut [OLD; 4096]);
+    show::heading(b"16384 bytes: a .. a b");
+    let mut pattern = [b'a'; 16384];
+    pattern[16383] = b'b';
+    each_call(&pattern, &mut [OLD; 16384]);
 }
 
 fn refused() {
-    show::heading(b"4097 bytes: a .. a b");
-    let mut pattern = [b'a'; 4097];
-    pattern[4096] = b'b';
-    each_call(&pattern, &mut [OLD; 4097]);
+    show::heading(b"16385 bytes: a .. a b");
+    let mut pattern = [b'a'; 16385];
+    pattern[16384] = b'b';
+    each_call(&pattern, &mut [OLD; 16385]);
     show::heading(b"65536 bytes");
-    each_call(&[b'a'; 65536], &mut [OLD; 4097]);
+    each_call(&[b'a'; 65536], &mut [OLD; 16385]);
 }
 
-// 4,096 factors: one group, a table of ones, 4,096 starts; no phase mark, since one letter is repeated.
+// 16,384 factors: one group, a table of ones, 16,384 starts; no phase mark, since one letter is repeated.
 fn repeated(pattern: &[u8]) {
-    show::heading(b"4096 bytes: a .. a");
+    show::heading(b"16384 bytes: a .. a");
     calls::factor(pattern, 3);
-    calls::lyndon_array(pattern, 4095);
-    calls::lyndon_array(pattern, 4096);
-    calls::last_factors(pattern, 4095);
-    calls::last_factors(pattern, 4096);
-    calls::longest_words(pattern, 4095);
-    calls::longest_words(pattern, 4096);
-    calls::longest_words(pattern, 4097);
+    calls::lyndon_array(pattern, 16383);
+    calls::lyndon_array(pattern, 16384);
+    calls::last_factors(pattern, 16383);
+    calls::last_factors(pattern, 16384);
+    calls::longest_words(pattern, 16383);
+    calls::longest_words(pattern, 16384);
+    calls::longest_words(pattern, 16385);
     calls::is_lyndon(pattern);
     calls::least_rotation(pattern);
 }
 
 fn last_start() {
-    show::heading(b"4096 bytes: a .. a b a");
-    let mut pattern = [b'a'; 4096];
-    pattern[4094] = b'b';
+    show::heading(b"16384 bytes: a .. a b a");
+    let mut pattern = [b'a'; 16384];
+    pattern[16382] = b'b';
     calls::least_rotation(&pattern);
 }
 
@@ -64,17 +64,17 @@ fn trees() {
     calls::lyndon_tree(&accepted, 1021);
     calls::lyndon_tree(&accepted, 1022);
     calls::lyndon_tree(&accepted, 1024);
-    show::heading(b"257 bytes: a .. a b, and 4097 bytes");
+    show::heading(b"257 bytes: a .. a b, and 16385 bytes");
     let mut refused = [b'a'; 257];
     refused[256] = b'b';
     calls::lyndon_tree(&refused, 1026);
-    calls::lyndon_tree(&[b'a'; 4097], 1026);
+    calls::lyndon_tree(&[b'a'; 16385], 1026);
 }
 
 pub(crate) fn run() {
     accepted();
     refused();
-    repeated(&[b'a'; 4096]);
+    repeated(&[b'a'; 16384]);
     last_start();
     trees();
 }

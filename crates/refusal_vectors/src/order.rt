@@ -19,7 +19,7 @@ fn lyndon_array(s: &[u8]) {
     calls::factor_suffix(s, &[2, 1, 2, 1], 0, 2);
 }
 
-// 4,097 bytes, tables and rows of 0 entries, the largest position.
+// 16,385 bytes, tables and rows of 0 entries, the largest position.
 fn long_pattern(s: &[u8]) {
     show::heading(b"refusals that hold: 1 8");
     calls::factor(s, 0);
@@ -44,6 +44,6 @@ fn trees() {
 pub(crate) fn run() {
     last_factors(b"abab");
     lyndon_array(b"abab");
-    long_pattern(&[b'a'; 4097]);
+    long_pattern(&[b'a'; 16385]);
     trees();
 }

@@ -23,21 +23,21 @@ fn accepted() {
     calls::least_rotation(b"bbabbabbabbabab");
 }
 
-// a^2047 b twice, and with its last byte larger; a^1364 b three times.
+// a^8191 b twice, and with its last byte larger; a^5460 b three times.
 fn long() {
     show::heading(
-        b"4096 bytes: equal halves, and with the last byte larger; 4095 bytes: equal thirds",
+        b"16384 bytes: equal halves, and with the last byte larger; 16383 bytes: equal thirds",
     );
-    let mut halves = [b'a'; 4096];
-    halves[2047] = b'b';
-    halves[4095] = b'b';
+    let mut halves = [b'a'; 16384];
+    halves[8191] = b'b';
+    halves[16383] = b'b';
     calls::least_rotation(&halves);
-    halves[4095] = b'c';
+    halves[16383] = b'c';
     calls::least_rotation(&halves);
-    let mut thirds = [b'a'; 4095];
-    thirds[1364] = b'b';
-    thirds[2729] = b'b';
-    thirds[4094] = b'b';
+    let mut thirds = [b'a'; 16383];
+    thirds[5460] = b'b';
+    thirds[10921] = b'b';
+    thirds[16382] = b'b';
     calls::least_rotation(&thirds);
 }
 

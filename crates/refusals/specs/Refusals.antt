@@ -31,7 +31,7 @@ abbrev pub rowAfter : {A : Type 0} → ℕ → List A → List A → List A
 rowAfter refusal out row = unlessRefused refusal (written out row) row
 
 abbrev pub maxPattern : ℕ
-maxPattern = 4096
+maxPattern = 16384
 
 abbrev pub maxBlock : ℕ
 maxBlock = 256

@@ -3,7 +3,7 @@
 ghost use mathlib.Core.Path.{_≡_};
 
 // The longest pattern, stored or edited.
-pub const MAX_PATTERN: usize = 4096;
+pub const MAX_PATTERN: usize = 16384;
 
 // The longest block of an edit.
 pub const MAX_BLOCK: usize = 256;

@@ -11,7 +11,7 @@ const SPACE: usize = MAX_PATTERN + 1;
 // What each byte of a buffer holds before a call, and the longest buffer.
 pub const BLANK: u8 = b'.';
 
-pub const BUFFER: usize = MAX_PATTERN + 8;
+pub const BUFFER: usize = MAX_PATTERN + 9;
 
 pub fn least(a: usize, b: usize) -> usize
     ensures { λ r. ⌜ r ≤ a ⌝ }

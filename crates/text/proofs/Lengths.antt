@@ -108,4 +108,4 @@ groups-few s = omega (arith, groups-most 0 (factors s), factors-few s)
 
 -- a buffer of this length always suffices
 pub listing-room : (s : List ℕ) → length s ≤ maxPattern → length (listingText s) ≤ maxListing
-listing-room s h = omega (arith, listing-bound s 3 (omega arith), groups-few s)
+listing-room s h = omega (arith, listing-bound s 4 (omega arith), groups-few s)

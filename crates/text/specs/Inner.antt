@@ -4,4 +4,4 @@ use Rattle.refusals.specs.Refusals.{maxPattern}
 
 -- No listing of a pattern of at most `maxPattern` bytes is longer: `listing-room`.
 abbrev pub maxListing : ℕ
-maxListing = 25 + 19 * maxPattern
+maxListing = 25 + 22 * maxPattern

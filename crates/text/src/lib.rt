@@ -17,8 +17,8 @@ ghost use Rattle.rows.specs.Written.{Room, Puts};
 // The first line of every listing.
 pub const HEADER: [u8; 25] = *b"start,length,power,word\r\n";
 
-// No listing of an accepted pattern is longer: the header, and for each byte at most 5 + 3 * 4 + 2 bytes.
-pub const MAX_LISTING: usize = 25 + 19 * MAX_PATTERN;
+// No listing of an accepted pattern is longer: the header, and for each byte at most 5 + 3 * 5 + 2 bytes.
+pub const MAX_LISTING: usize = 25 + 22 * MAX_PATTERN;
 
 const LINE_END: [u8; 2] = *b"\r\n";
 

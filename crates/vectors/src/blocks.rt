@@ -9,8 +9,8 @@ use show::calls::BLANK;
 use show::calls::BUFFER;
 use show::calls::least;
 
-// The longest block that is read here: a header of nine digits, 4,097 bytes, and two bytes behind them.
-const SPACE: usize = 4110;
+// The longest block that is read here: a header of nine digits, 16,385 bytes, and two bytes behind them.
+const SPACE: usize = 16398;
 
 // Reads each of the blocks, which `|` parts: a function of many calls with a text each takes long to check.
 fn each(heading: &[u8], blocks: &[u8]) {
@@ -45,7 +45,7 @@ fn headers() {
 fn lengths() {
     each(
         b"blocks: cut short",
-        b"#1|#2|#21|#9|#900000000|#13|#13ab|#210abc|#44096abc|#44097abc|#9000004097abc|#9999999999abc",
+        b"#1|#2|#21|#9|#900000000|#13|#13ab|#210abc|#516384abc|#516385abc|#9000016385abc|#9999999999abc",
     );
     each(
         b"blocks: bytes before and behind",
@@ -59,7 +59,7 @@ fn lengths() {
 
 // The header, `a`s up to a place, and what ends the block.
 fn long(header: &[u8], place: usize, end: &[u8])
-    requires { ⌜ (length (now header) ≤ 11) × (place ≤ 4108) × (length (now end) ≤ 2) ⌝ }
+    requires { ⌜ (length (now header) ≤ 11) × (place ≤ 16396) × (length (now end) ≤ 2) ⌝ }
 {
     let mut space = [b'a'; SPACE];
     write_bytes(header, &mut space, 0);
@@ -69,7 +69,7 @@ fn long(header: &[u8], place: usize, end: &[u8])
 
 // A block whose bytes should end at this place: one byte short, exact, four times with bytes behind them, and with a line feed as the last byte.
 fn ends(header: &[u8], place: usize)
-    requires { ⌜ (length (now header) ≤ 11) × (0 < place) × (place ≤ 4108) ⌝ }
+    requires { ⌜ (length (now header) ≤ 11) × (0 < place) × (place ≤ 16396) ⌝ }
 {
     long(header, place - 1, b"");
     long(header, place, b"");
@@ -82,17 +82,17 @@ fn ends(header: &[u8], place: usize)
 
 fn limit() {
     show::heading(
-        b"blocks of 4096 and 4097 bytes: one short, exact, bytes behind them, a line feed as the last",
+        b"blocks of 16384 and 16385 bytes: one short, exact, bytes behind them, a line feed as the last",
     );
-    ends(b"#44096", 4102);
-    ends(b"#9000004096", 4107);
-    ends(b"#44097", 4103);
-    ends(b"#9000004097", 4108);
+    ends(b"#516384", 16391);
+    ends(b"#9000016384", 16395);
+    ends(b"#516385", 16392);
+    ends(b"#9000016385", 16396);
 }
 
 // The pattern written into a buffer of one byte too few, of the block's size and of two more, and the block read again.
 fn write(pattern: &[u8], size: usize)
-    requires { ⌜ (0 < size) × (size ≤ 4102) ⌝ }
+    requires { ⌜ (0 < size) × (size ≤ 16391) ⌝ }
 {
     calls::write_block(pattern, size - 1);
     calls::write_block(pattern, size);
@@ -115,15 +115,17 @@ fn written() {
 
 // Counts that are next to a digit more, and the limit.
 fn sizes(pattern: &[u8])
-    requires { ⌜ length (now pattern) ≡ 4097 ⌝ }
+    requires { ⌜ length (now pattern) ≡ 16385 ⌝ }
 {
     write(&pattern[0..99], 103);
     write(&pattern[0..100], 105);
     write(&pattern[0..999], 1004);
     write(&pattern[0..1000], 1006);
-    write(&pattern[0..4096], 4102);
-    calls::write_block(pattern, 4103);
-    calls::write_block(pattern, 4102);
+    write(&pattern[0..9999], 10005);
+    write(&pattern[0..10000], 10007);
+    write(&pattern[0..16384], 16391);
+    calls::write_block(pattern, 16392);
+    calls::write_block(pattern, 16391);
     calls::write_block(pattern, 0);
 }
 
@@ -132,5 +134,5 @@ pub(crate) fn run() {
     lengths();
     limit();
     written();
-    sizes(&[b'a'; 4097]);
+    sizes(&[b'a'; 16385]);
 }

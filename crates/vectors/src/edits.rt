@@ -1,9 +1,12 @@
 // The answer to edits: the trainer's sheet, both ends, edges of length, refusals of which later ones hold too, wrong entries of the tables,
 // and positions at the largest `usize`. Rows have room for so many groups and places.
+ghost use Prim.Native.Nat.{_≤_};
+ghost use lib.ListN.{length};
 use edit::Answer;
 use edit::MAX_MIDDLE;
 use lyndon_edit::edit_numbers;
 use refusals::MAX_PATTERN;
+use show::calls;
 use show::calls::OLD;
 use show::calls::least;
 
@@ -88,7 +91,7 @@ fn ends() {
 
 fn places() {
     show::heading(b"refusals, with later ones true");
-    edit(&[b'a'; 4097], 2, 1, &[b'b'; 257], 0, 0);
+    edit(&[b'a'; 16385], 2, 1, &[b'b'; 257], 0, 0);
     edit(b"abc", 2, 1, &[b'b'; 257], 0, 0);
     edit(b"abc", usize::MAX, usize::MAX, b"", 0, 0);
     edit(b"abc", 0, usize::MAX, b"", 0, 0);
@@ -96,17 +99,17 @@ fn places() {
 }
 
 fn sizes() {
-    edit(&[b'a'; 4000], 0, 0, &[b'b'; 257], 0, 0);
-    edit_with(&[b'a'; 4000], &[], &[], 0, 0, &[b'b'; 97], 0, 0);
+    edit(&[b'a'; 16288], 0, 0, &[b'b'; 257], 0, 0);
+    edit_with(&[b'a'; 16288], &[], &[], 0, 0, &[b'b'; 97], 0, 0);
     edit_with(b"abc", &[], &[], 0, 0, b"b", 0, 0);
     edit(b"acbabcabcabac", 11, 11, b"a", 1, 4);
     edit(b"acbabcabcabac", 11, 11, b"a", 2, 3);
 }
 
 fn longest() {
-    show::heading(b"an edited length of 4096, a block of 256");
-    edit(&[b'a'; 3840], 3840, 3840, &[b'b'; 256], 1, 1);
-    edit(&[b'a'; 3841], 3841, 3841, &[b'b'; 256], 1, 1);
+    show::heading(b"an edited length of 16384, a block of 256");
+    edit(&[b'a'; 16128], 16128, 16128, &[b'b'; 256], 1, 1);
+    edit(&[b'a'; 16129], 16129, 16129, &[b'b'; 256], 1, 1);
 }
 
 // One entry of a table is one too large.
@@ -137,6 +140,30 @@ fn tables() {
     edit_with(b"acbabcabcabac", &REACH, &LAST, 5, 6, b"b", 1, 1);
 }
 
+// n n-1 .. 1, the Lyndon array of a .. a b.
+fn falling(table: &mut [u16])
+    requires { ⌜ length (now table) ≤ 4096 ⌝ }
+{
+    let n = table.len();
+    for i in 0..n {
+        table[i] = (n - i) as u16;
+    }
+}
+
+// Tables that were stored when 4,096 bytes were the limit, here of a .. a b, the longest there was: 4096 4095 .. 1, and 1 1 .. 1 4096.
+fn stored() {
+    show::heading(b"stored tables of 4096 bytes: a .. a b");
+    let mut pattern = [b'a'; 4096];
+    pattern[4095] = b'b';
+    let mut array = [0; 4096];
+    falling(&mut array);
+    let mut last = [1; 4096];
+    last[4095] = 4096;
+    edit_with(&pattern, &array, &last, 2048, 2049, b"b", 1, 1);
+    calls::factor_prefix(&pattern, &last, 4096, 3);
+    calls::factor_suffix(&pattern, &array, 4000, 3);
+}
+
 pub(crate) fn run() {
     sheet();
     ends();
@@ -145,4 +172,5 @@ pub(crate) fn run() {
     sizes();
     longest();
     tables();
+    stored();
 }

@@ -118,8 +118,8 @@ facts =
     ∷ grouped acbabcabcabac (group 0 3 1 ∷ group 3 3 2 ∷ group 9 4 1 ∷ [])
     ∷ digits 0 0
     ∷ digits 1 1
-    ∷ digits 4095 12
-    ∷ digits 4096 13
+    ∷ digits 16383 14
+    ∷ digits 16384 15
     ∷ []
 
 pub facts-hold : Hold facts

@@ -79,7 +79,7 @@ stayed = (stay-none-slice (0 ∷ []) tt (plain (λ _. u8)) yes, (stay-none-slice
 
 -- the array: its size, three numbers for each middle group that there may be, its list, its machine value, and that it has room
 abbrev size : ℕ
-size = 810
+size = 816
 
 abbrev zeros : List ℕ
 zeros = replicate size 0
