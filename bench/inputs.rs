@@ -1,28 +1,33 @@
-//! The inputs of the benchmark: the ten families of tests/compare/families.rs at 4,096 bytes, the same with both tables, for the edits, and
+//! The inputs of the benchmark: the ten families of tests/compare/families.rs at two lengths, the same with both tables, for the edits, and
 //! beginnings of one of them with their blocks. What is timed on them is main.rs's concern.
 use crate::engine::Given;
 use crate::families::{A, B, families};
 use crate::plain;
 use crate::tally::Random;
 
-pub const SIZE: usize = 4096;
+/// The longest pattern, and the longest of before.
+pub const SIZE: usize = 16_384;
+pub const QUARTER: usize = 4096;
 const SEED: u64 = 20_261_115;
-/// Words of a random family: a single one would be learnt by heart, as a processor does after some hundred passes over the same 4,096 bytes.
-const DRAWS: usize = 64;
+/// The bytes of all words of a random family, as many for each length: a single word would be learnt by heart, as a processor does after some
+/// hundred passes over the same 4,096 bytes.
+const DRAWN: usize = 64 * SIZE;
 /// What an edit puts in, a word that no family but the random ones has; it takes as many bytes out.
 const BLOCK: &[u8] = &[B, A, A, A, B, A, B, B];
 
-pub const START: usize = 0;
-pub const MIDDLE: usize = SIZE / 2;
-pub const END: usize = SIZE - BLOCK.len();
+/// Where an edit starts in a pattern of a length.
+pub type Place = fn(usize) -> usize;
+pub const START: Place = |_| 0;
+pub const MIDDLE: Place = |n| n / 2;
+pub const END: Place = |n| n - BLOCK.len();
 
 /// A name and its words.
 pub type Family<I> = (&'static str, Vec<I>);
 
-/// A family without chance has one word.
-pub fn words() -> Vec<Family<Vec<u8>>> {
+/// Words of a length; a family without chance has one.
+pub fn words(size: usize) -> Vec<Family<Vec<u8>>> {
     let mut random = Random::new(SEED);
-    let draws: Vec<_> = (0..DRAWS).map(|_| families(SIZE, &mut random)).collect();
+    let draws: Vec<_> = (0..DRAWN / size).map(|_| families(size, &mut random)).collect();
     let family = |k: usize| {
         let mut words: Vec<_> = draws.iter().map(|draw| draw[k].1.clone()).collect();
         words.dedup();
@@ -47,7 +52,8 @@ impl Stored {
     }
 
     /// The edit at a place.
-    pub fn at(&self, from: usize) -> Given<'_> {
+    pub fn at(&self, place: Place) -> Given<'_> {
+        let from = place(self.pattern.len());
         Given { pattern: &self.pattern, array: &self.array, last: &self.last, from, to: from + BLOCK.len(), block: BLOCK }
     }
 }
@@ -71,12 +77,14 @@ impl Framed {
 }
 
 /// The longest of the blocks' patterns.
-pub const WHOLE: &str = "4,096 bytes";
+pub const WHOLE: &str = "16,384 bytes";
 
-/// What is copied does not matter, but how much: beginnings of the Fibonacci word.
-pub fn framed(families: &[Family<Vec<u8>>]) -> Vec<Family<Framed>> {
-    let word = first(families, "Fibonacci");
-    [("13 bytes", 13), ("256 bytes", 256), (WHOLE, SIZE)].map(|(name, size)| (name, vec![Framed::new(&word[..size])])).into()
+/// What is copied does not matter, but how much: beginnings of the longest Fibonacci word.
+pub fn framed() -> Vec<Family<Framed>> {
+    let longest = words(SIZE);
+    let word = first(&longest, "Fibonacci");
+    let sizes = [("13 bytes", 13), ("256 bytes", 256), ("4,096 bytes", QUARTER), (WHOLE, SIZE)];
+    sizes.map(|(name, size)| (name, vec![Framed::new(&word[..size])])).into()
 }
 
 /// The first word of a family.

@@ -1,6 +1,6 @@
-//! Times the engine's calls against the same algorithms in safe Rust, on 4,096 bytes of ten families: `main time` prints a line for each family and
-//! contest, and `main table` three tables of all the lines that it reads, from several links of this program. `main once CONTEST` runs one call of
-//! each side on the Fibonacci word, for a tool that counts instructions.
+//! Times the engine's calls against the same algorithms in safe Rust, on 4,096 and 16,384 bytes of ten families: `main time` prints a line for each
+//! size, family and contest, and `main table` the tables of all the lines that it reads, from several links of this program. `main once CONTEST`
+//! runs one call of each side on the longest Fibonacci word, for a tool that counts instructions.
 #[allow(dead_code)]
 #[path = "../tests/compare/engine.rs"]
 mod engine;
@@ -18,7 +18,7 @@ mod table;
 mod tally;
 
 use engine::{Answer, EditAnswer};
-use inputs::{END, Framed, MIDDLE, START, Stored, WHOLE, first};
+use inputs::{END, Family, Framed, MIDDLE, QUARTER, SIZE, START, Stored, WHOLE, first};
 use race::{Call, Contest};
 use std::fmt::Debug;
 
@@ -108,31 +108,50 @@ fn once<I, O: Debug + PartialEq>(contests: &[Contest<I, O>], name: &str, input: 
     contests.iter().find(|c| c.name == name).map(|c| c.once(input)).is_some()
 }
 
-fn table<I, O>(contests: &[Contest<I, O>], families: &[&str], least: &table::Least) {
+fn table<I, O>(size: &str, contests: &[Contest<I, O>], families: &[&str], least: &table::Least) {
     let columns: Vec<_> = contests.iter().map(|c| (c.name, c.target)).collect();
-    table::print(&columns, families, least);
+    table::print(size, &columns, families, least);
 }
+
+fn growth<I, O>(contests: &[Contest<I, O>], families: &[&str], least: &table::Least) {
+    let names: Vec<_> = contests.iter().map(|c| c.name).collect();
+    table::growth(SIZES, &names, families, least);
+}
+
+fn names<I>(families: &[Family<I>]) -> Vec<&'static str> {
+    families.iter().map(|f| f.0).collect()
+}
+
+/// Of a table whose families are lengths.
+const LENGTHS: &str = "blocks";
+const SIZES: [(&str, usize); 2] = [("4,096 bytes", QUARTER), ("16,384 bytes", SIZE)];
 
 fn main() {
     let arguments: Vec<_> = std::env::args().skip(1).collect();
-    let words = inputs::words();
     match &arguments.iter().map(String::as_str).collect::<Vec<_>>()[..] {
         ["time"] => {
-            race::race(&WORDS, &words);
-            race::race(&BLOCKS, &inputs::framed(&words));
-            race::race(&EDITS, &inputs::stored(words));
+            for (name, size) in SIZES {
+                let words = inputs::words(size);
+                race::race(name, &WORDS, &words);
+                race::race(name, &EDITS, &inputs::stored(words));
+            }
+            race::race(LENGTHS, &BLOCKS, &inputs::framed());
         }
         ["table"] => {
-            let families: Vec<_> = words.iter().map(|f| f.0).collect();
+            let families = names(&inputs::words(QUARTER));
             let least = table::read(std::io::stdin().lines().map(|line| line.expect("lines of text")));
-            table(&WORDS, &families, &least);
-            table(&EDITS, &families, &least);
-            let sizes: Vec<_> = inputs::framed(&words).iter().map(|f| f.0).collect();
-            table(&BLOCKS, &sizes, &least);
+            for (name, _) in SIZES {
+                table(name, &WORDS, &families, &least);
+                table(name, &EDITS, &families, &least);
+            }
+            table(LENGTHS, &BLOCKS, &names(&inputs::framed()), &least);
+            growth(&WORDS, &families, &least);
+            growth(&EDITS, &families, &least);
         }
         ["once", name] => {
+            let words = inputs::words(SIZE);
             let found = once(&WORDS, name, first(&words, "Fibonacci"))
-                || once(&BLOCKS, name, first(&inputs::framed(&words), WHOLE))
+                || once(&BLOCKS, name, first(&inputs::framed(), WHOLE))
                 || once(&EDITS, name, first(&inputs::stored(words), "Fibonacci"));
             assert!(found, "no contest {name}");
         }

@@ -1,6 +1,7 @@
 //! The same algorithms as one writes them in safe Rust: what the engine is measured against. They refuse nothing; an index out of range panics.
 //! None is inlined into its caller, as the engine's are not, so that a tool finds them by name.
 #![forbid(unsafe_code)]
+use crate::inputs::SIZE;
 
 /// Factor length and power of the group that starts at i, by Duval's scan.
 fn group(s: &[u8], i: usize) -> (usize, usize) {
@@ -104,7 +105,7 @@ pub fn last_factors(s: &[u8], table: &mut [u16]) -> usize {
 #[inline(never)]
 pub fn least_rotation(s: &[u8]) -> Option<usize> {
     let n = s.len();
-    let mut buffer = [0; 8192];
+    let mut buffer = [0; 2 * SIZE];
     buffer[..n].copy_from_slice(s);
     buffer[n..2 * n].copy_from_slice(s);
     let found = groups(&buffer[..2 * n], 0).find(|(start, length, power)| n <= start + length * power);

@@ -1,13 +1,12 @@
 //! Definite length blocks as one writes and reads them in safe Rust. `write` copies the bytes one by one, as the engine does, with checked
 //! indices; `write_by_slices` copies them by `copy_from_slice`. The three calls are not inlined, so that a tool finds them by name.
 #![forbid(unsafe_code)]
+use crate::inputs::SIZE;
 use crate::plain_text::digits;
-
-const LONGEST: usize = 4096;
 
 /// Whether there is a block of the pattern, and the buffer has room for it.
 fn fits(pattern: &[u8], block: &[u8]) -> bool {
-    pattern.len() <= LONGEST && 2 + digits(pattern.len()) + pattern.len() <= block.len()
+    pattern.len() <= SIZE && 2 + digits(pattern.len()) + pattern.len() <= block.len()
 }
 
 /// Writes the header for a count, and answers the place behind it.
@@ -65,5 +64,5 @@ pub fn read(block: &[u8]) -> Option<(usize, usize)> {
         count = 10 * count + usize::from(digit - b'0');
     }
     let close = bytes.get(count..)?;
-    (count <= LONGEST && (close.is_empty() || close == b"\n")).then_some((2 + number.len(), count))
+    (count <= SIZE && (close.is_empty() || close == b"\n")).then_some((2 + number.len(), count))
 }

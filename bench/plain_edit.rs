@@ -3,6 +3,7 @@
 //! They refuse wrong tables and short rows before they write; the other refusals are left to the engine.
 #![forbid(unsafe_code)]
 use crate::engine::{EditAnswer, Given, Group};
+use crate::inputs::SIZE;
 use crate::plain::{groups, precedes};
 use std::cmp::Ordering;
 
@@ -84,7 +85,7 @@ fn has_tables(e: &Given) -> bool {
 }
 
 /// The edited pattern, at the front of the buffer.
-fn splice<'a>(e: &Given, buffer: &'a mut [u8; 4096]) -> &'a [u8] {
+fn splice<'a>(e: &Given, buffer: &'a mut [u8; SIZE]) -> &'a [u8] {
     let q = e.from + e.block.len();
     let size = q + e.pattern.len() - e.to;
     buffer[..e.from].copy_from_slice(&e.pattern[..e.from]);
@@ -115,7 +116,7 @@ fn stepwise<T>(e: &Given, middle: &mut [T], starts: &mut [u16], entry: impl Fn([
     if !has_tables(e) {
         return refused(5);
     }
-    let buffer = &mut [0; 4096];
+    let buffer = &mut [0; SIZE];
     let t = splice(e, buffer);
     let q = e.from + e.block.len();
     let fresh = ends(groups(t, 0), e.from);
@@ -156,7 +157,7 @@ fn clipped((start, length, power): Span, from: usize, to: usize) -> Option<Span>
 /// One scan of the edited pattern, whose groups are kept; the tables are not tested.
 #[inline(never)]
 pub fn trusting(e: &Given, middle: &mut [Group], starts: &mut [u16]) -> EditAnswer {
-    let buffer = &mut [0; 4096];
+    let buffer = &mut [0; SIZE];
     let t = splice(e, buffer);
     let q = e.from + e.block.len();
     let all: Vec<Span> = groups(t, 0).collect();

@@ -24,7 +24,7 @@ pub struct Rows {
 impl Rows {
     fn new() -> Rows {
         let group = Group { start: 7, length: 7, power: 7 };
-        Rows { numbers: vec![7; 3 * SIZE], records: vec![group; 270], starts: vec![7; SIZE], text: vec![7; 77_849] }
+        Rows { numbers: vec![7; 3 * SIZE], records: vec![group; 272], starts: vec![7; SIZE], text: vec![7; 25 + 22 * SIZE] }
     }
 }
 
@@ -86,8 +86,8 @@ fn nanoseconds<I, O>(call: Call<I, O>, inputs: &[I], rows: &mut Rows, times: usi
     start.elapsed().as_nanos() as f64 / (times * inputs.len()) as f64
 }
 
-/// Compares, then times, and prints a line for each family and contest.
-pub fn race<I, O: Debug + PartialEq>(contests: &[Contest<I, O>], families: &[Family<I>]) {
+/// Compares, then times, and prints a line for each family and contest behind the name of the inputs' size.
+pub fn race<I, O: Debug + PartialEq>(size: &str, contests: &[Contest<I, O>], families: &[Family<I>]) {
     for contest in contests {
         for (family, inputs) in families {
             contest.compare(family, inputs);
@@ -96,7 +96,7 @@ pub fn race<I, O: Debug + PartialEq>(contests: &[Contest<I, O>], families: &[Fam
     let mut rows = Rows::new();
     for (family, inputs) in families {
         for contest in contests {
-            contest.times(inputs, &mut rows).print(family, contest.name);
+            contest.times(inputs, &mut rows).print(size, family, contest.name);
         }
     }
 }

@@ -1,4 +1,5 @@
-//! The least times of both sides, passed on as lines from several links of the benchmark, and the table made of all these lines.
+//! The least times of both sides, passed on as lines from several links of the benchmark, and the tables made of all these lines: engine beside
+//! Rust, and how the time of a byte grows from one length to another.
 use std::collections::HashMap;
 
 /// In nanoseconds.
@@ -12,37 +13,47 @@ impl Times {
     pub const NONE: Times = Times { engine: f64::INFINITY, plain: f64::INFINITY };
 
     /// Prints a line that `read` reads.
-    pub fn print(&self, family: &str, contest: &str) {
-        println!("{family}\t{contest}\t{}\t{}", self.engine, self.plain);
+    pub fn print(&self, size: &str, family: &str, contest: &str) {
+        println!("{size}\t{family}\t{contest}\t{}\t{}", self.engine, self.plain);
     }
 }
 
-/// By family and contest.
-pub type Least = HashMap<(String, String), Times>;
+/// By size, family and contest.
+pub struct Least(HashMap<[String; 3], Times>);
 
-/// Takes the least of the times that the lines have for the same family and contest.
+impl Least {
+    fn times(&self, size: &str, family: &str, contest: &str) -> Times {
+        self.0[&[size, family, contest].map(String::from)]
+    }
+}
+
+/// Takes the least of the times that the lines have for the same size, family and contest.
 pub fn read(lines: impl Iterator<Item = String>) -> Least {
-    let mut least = Least::new();
+    let mut least = HashMap::new();
     for line in lines {
         let fields: Vec<_> = line.split('\t').collect();
-        let [family, contest, engine, plain] = fields[..] else { panic!("no line of times: {line}") };
+        let [size, family, contest, engine, plain] = fields[..] else { panic!("no line of times: {line}") };
         let number = |field: &str| field.parse::<f64>().expect("a time is a number");
-        let times = least.entry((family.to_string(), contest.to_string())).or_insert(Times::NONE);
+        let times = least.entry([size, family, contest].map(String::from)).or_insert(Times::NONE);
         times.engine = times.engine.min(number(engine));
         times.plain = times.plain.min(number(plain));
     }
-    least
+    Least(least)
+}
+
+fn head<'a>(title: &str, names: impl Iterator<Item = &'a str>) {
+    let names: Vec<_> = names.collect();
+    println!("| {title} | {} |\n|---{}|", names.join(" | "), "|---".repeat(names.len()));
 }
 
 /// Prints a row for each family; a contest is a name and the largest ratio wanted.
-pub fn print(contests: &[(&str, f64)], families: &[&str], least: &Least) {
-    let names: Vec<_> = contests.iter().map(|c| c.0).collect();
-    println!("| engine / Rust, ns | {} |\n|---{}|", names.join(" | "), "|---".repeat(names.len()));
+pub fn print(size: &str, contests: &[(&str, f64)], families: &[&str], least: &Least) {
+    head(&format!("{size}: engine / Rust, ns"), contests.iter().map(|c| c.0));
     let mut over = 0;
     for family in families {
         print!("| {family} |");
         for &(name, target) in contests {
-            let Times { engine, plain } = least[&(family.to_string(), name.to_string())];
+            let Times { engine, plain } = least.times(size, family, name);
             let is_over = engine / plain > target;
             over += usize::from(is_over);
             print!(" {engine:.0} / {plain:.0} = {:.2}{} |", engine / plain, if is_over { " (over)" } else { "" });
@@ -50,4 +61,20 @@ pub fn print(contests: &[(&str, f64)], families: &[&str], least: &Least) {
         println!();
     }
     println!("\nresults equal on all inputs; {over} over their target\n");
+}
+
+/// Prints by how much the time of a byte grows: that of the second size by that of the first, of the engine and of Rust. A size is its name and
+/// its bytes.
+pub fn growth([short, long]: [(&str, usize); 2], contests: &[&str], families: &[&str], least: &Least) {
+    head(&format!("a byte of {} by one of {}: engine, Rust", long.0, short.0), contests.iter().copied());
+    let bytes = short.1 as f64 / long.1 as f64;
+    for family in families {
+        print!("| {family} |");
+        for name in contests {
+            let (from, to) = (least.times(short.0, family, name), least.times(long.0, family, name));
+            print!(" {:.2}, {:.2} |", to.engine / from.engine * bytes, to.plain / from.plain * bytes);
+        }
+        println!();
+    }
+    println!();
 }
