@@ -5,9 +5,10 @@ use crate::families::{A, B, families};
 use crate::plain;
 use crate::tally::Random;
 
-/// The longest pattern, and the longest of before.
+/// The longest pattern, and the longest of before, with their names.
 pub const SIZE: usize = 16_384;
 pub const QUARTER: usize = 4096;
+pub const SIZES: [(&str, usize); 2] = [("4,096 bytes", QUARTER), ("16,384 bytes", SIZE)];
 const SEED: u64 = 20_261_115;
 /// The bytes of all words of a random family, as many for each length: a single word would be learnt by heart, as a processor does after some
 /// hundred passes over the same 4,096 bytes.
@@ -76,14 +77,11 @@ impl Framed {
     }
 }
 
-/// The longest of the blocks' patterns.
-pub const WHOLE: &str = "16,384 bytes";
-
 /// What is copied does not matter, but how much: beginnings of the longest Fibonacci word.
 pub fn framed() -> Vec<Family<Framed>> {
     let longest = words(SIZE);
     let word = first(&longest, "Fibonacci");
-    let sizes = [("13 bytes", 13), ("256 bytes", 256), ("4,096 bytes", QUARTER), (WHOLE, SIZE)];
+    let sizes = [("13 bytes", 13), ("256 bytes", 256), SIZES[0], SIZES[1]];
     sizes.map(|(name, size)| (name, vec![Framed::new(&word[..size])])).into()
 }
 

@@ -18,7 +18,7 @@ mod table;
 mod tally;
 
 use engine::{Answer, EditAnswer};
-use inputs::{END, Family, Framed, MIDDLE, QUARTER, SIZE, START, Stored, WHOLE, first};
+use inputs::{END, Family, Framed, MIDDLE, SIZE, SIZES, START, Stored, first};
 use race::{Call, Contest};
 use std::fmt::Debug;
 
@@ -124,7 +124,6 @@ fn names<I>(families: &[Family<I>]) -> Vec<&'static str> {
 
 /// Of a table whose families are lengths.
 const LENGTHS: &str = "blocks";
-const SIZES: [(&str, usize); 2] = [("4,096 bytes", QUARTER), ("16,384 bytes", SIZE)];
 
 fn main() {
     let arguments: Vec<_> = std::env::args().skip(1).collect();
@@ -138,7 +137,7 @@ fn main() {
             race::race(LENGTHS, &BLOCKS, &inputs::framed());
         }
         ["table"] => {
-            let families = names(&inputs::words(QUARTER));
+            let families = names(&inputs::words(SIZE));
             let least = table::read(std::io::stdin().lines().map(|line| line.expect("lines of text")));
             for (name, _) in SIZES {
                 table(name, &WORDS, &families, &least);
@@ -151,7 +150,7 @@ fn main() {
         ["once", name] => {
             let words = inputs::words(SIZE);
             let found = once(&WORDS, name, first(&words, "Fibonacci"))
-                || once(&BLOCKS, name, first(&inputs::framed(), WHOLE))
+                || once(&BLOCKS, name, first(&inputs::framed(), SIZES[1].0))
                 || once(&EDITS, name, first(&inputs::stored(words), "Fibonacci"));
             assert!(found, "no contest {name}");
         }

@@ -136,8 +136,8 @@ fn short_of_bytes(t: &mut Tally, bytes: &[u8]) {
 
 /// Blocks with 1 to 9 digits around each number of digits and the longest pattern, whole, cut at every place and damaged.
 pub fn headers(t: &mut Tally, r: &mut Random) {
-    let long = r.bytes(LIMIT + 904);
-    for n in [0, 1, 2, 9, 10, 11, 99, 100, 999, 1000, 9999, 10_000, LIMIT - 1, LIMIT, LIMIT + 1, LIMIT + 904] {
+    let long = r.bytes(LIMIT + 1000);
+    for n in [0, 1, 2, 9, 10, 11, 99, 100, 999, 1000, 9999, 10_000, LIMIT - 1, LIMIT, LIMIT + 1, LIMIT + 1000] {
         for digits in 1..=9 {
             for close in ["", "\n"] {
                 if let Some(block) = block(digits, &long[..n], close) {
@@ -159,7 +159,7 @@ fn contents(r: &mut Random, n: usize) -> Vec<u8> {
 pub fn random(t: &mut Tally, r: &mut Random, blocks: usize) {
     for _ in 0..blocks {
         let digits = 1 + r.below(9);
-        let most = [10, 40, 40, 40, 300, LIMIT + 905][r.below(6)].min(10_usize.pow(digits as u32));
+        let most = [10, 40, 40, 40, 300, LIMIT + 1001][r.below(6)].min(10_usize.pow(digits as u32));
         let n = r.below(most);
         let bytes = contents(r, n);
         let whole = block(digits, &bytes, ["", "\n"][r.below(2)]).expect("the digits are enough");

@@ -179,7 +179,7 @@ fn rows(t: &mut Tally) {
 fn repeated(t: &mut Tally, long: &[u8]) {
     let half = LIMIT / 2;
     let mut changed = long[..half].repeat(2);
-    changed[half + 952] ^= 0xFF;
+    changed[half + 1000] ^= 0xFF;
     #[rustfmt::skip]
     let all = [
         (vec![], 0), (vec![A], 0), (vec![A, A], 10), (vec![A, B], 0), (b"abab".to_vec(), 10), (b"baab".to_vec(), 0),

@@ -103,7 +103,7 @@ static const row rows[] = {
     { "lyndon_longest_words", run_longest_words, N, 1024, 0 },
     { "lyndon_longest_word", run_longest_word, N, 1024, 0 },
     { "lyndon_is_lyndon", run_is_lyndon, N, 1024, 0 },
-    { "lyndon_least_rotation", run_least_rotation, N, 40960, 0 },
+    { "lyndon_least_rotation", run_least_rotation, N, 36864, 0 },
     { "lyndon_tree", run_tree, LYNDON_MAX_TREE, 32768, 24576 },
     { "lyndon_factor_prefix", run_prefix, N, 1024, 0 },
     { "lyndon_factor_suffix", run_suffix, N, 1024, 0 },

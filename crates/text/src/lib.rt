@@ -17,7 +17,8 @@ ghost use Rattle.rows.specs.Written.{Room, Puts};
 // The first line of every listing.
 pub const HEADER: [u8; 25] = *b"start,length,power,word\r\n";
 
-// No listing of an accepted pattern is longer: the header, and for each byte at most 5 + 3 * 5 + 2 bytes.
+// No listing of an accepted pattern is longer: the header, and for each byte at most a line, which has three commas and the line end,
+// three numbers of at most five digits and a pair of digits.
 pub const MAX_LISTING: usize = 25 + 22 * MAX_PATTERN;
 
 const LINE_END: [u8; 2] = *b"\r\n";

@@ -1,5 +1,5 @@
 // The answer to edits: the trainer's sheet, both ends, edges of length, refusals of which later ones hold too, wrong entries of the tables,
-// and positions at the largest `usize`. Rows have room for so many groups and places.
+// tables stored under the limit of before, and positions at the largest `usize`. Rows have room for so many groups and places.
 ghost use Prim.Native.Nat.{_≤_};
 ghost use lib.ListN.{length};
 use edit::Answer;

@@ -32,7 +32,7 @@ splice-requires c κs =
     let a = test .before .before .before .before .before .before .before .before .args in
     let shape = passed-shape (a .pattern .now) (a .array .now) (a .last .now) (a .from) (a .to) (a .block .now)
     (test .before .refusal .ensures) (test .if1 .left) in
-    (shape .start, shape .stretch, shape .fits)
+    (shape .start, shape .stretch, omega (arith, shape .fits))
 
 add-m : tie.Need-add-m
 add-m c =
