@@ -7,7 +7,7 @@ use crate::tally::Random;
 
 /// The longest pattern, and the longest of before, with their names.
 pub const SIZE: usize = 16_384;
-pub const QUARTER: usize = 4096;
+const QUARTER: usize = 4096;
 pub const SIZES: [(&str, usize); 2] = [("4,096 bytes", QUARTER), ("16,384 bytes", SIZE)];
 const SEED: u64 = 20_261_115;
 /// The bytes of all words of a random family, as many for each length: a single word would be learnt by heart, as a processor does after some

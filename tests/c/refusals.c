@@ -51,7 +51,7 @@ static void not_blocks(void) {
     for (size_t k = 0; k < sizeof cases / sizeof *cases; k++) check(reads_block(cases[k], REFUSED(9)), "lyndon_read_block, 9, case %zu", k);
 }
 
-/* A block of one byte too many is refused by 1; with a byte too few, and with one too many, it is none. */
+/* A block whose count is one over the limit is refused by 1; with a byte fewer or more than its count it is none. */
 static void long_blocks(void) {
     uint8_t block[7 + LONG + 1];
     memset(block, 'a', sizeof block);

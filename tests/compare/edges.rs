@@ -174,7 +174,7 @@ fn rows(t: &mut Tally) {
     say("edit_numbers, starts", 4, &|row| engine::edit_numbers(&g, &mut [0; 6], row).refusal);
 }
 
-/// 10: a word twice, three times and a byte over and over is refused; once, or with a byte changed, added or taken away, it is not. A word of
+/// 10: a word twice or three times, or a byte over and over, is refused; once, or with a byte changed, added or taken away, it is not. A word of
 /// 3,277 bytes has one too many when it comes five times: it is 1.
 fn repeated(t: &mut Tally, long: &[u8]) {
     let half = LIMIT / 2;

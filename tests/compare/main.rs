@@ -52,7 +52,7 @@ fn main() -> ExitCode {
     for n in [256, 257] {
         run.part(&format!("ten families of {n} bytes, from their phase marks on too"), |t| short::medium(t, r, n));
     }
-    for n in [LIMIT - 1, LIMIT, LIMIT + 1] {
+    for n in [4097, LIMIT - 1, LIMIT, LIMIT + 1] {
         run.part(&format!("ten families of {n} bytes"), |t| long::words(t, r, n));
     }
     run.part("every two-letter word to length 5 repeated to 48 bytes, a byte changed, added or taken away", |t| loops::short(t, TWO, 5));

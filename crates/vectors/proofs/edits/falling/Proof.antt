@@ -1,7 +1,6 @@
 -- `vectors::edits::falling` is safe and ends: `i` stays within the table, whose length is at most 4,096 and stays.
 use mathlib.Core.Path.{_≡_}
 use Prim.Native.Nat.{_≤_, _-_}
-use native.Mathlib.Omega.{arith}
 use lib.ListN.{length}
 use borrow.Author.Needs.{needs}
 use Rattle.vectors.proofs.edits.falling.Statement.{statement}
