@@ -111,8 +111,11 @@ def edited_cases():
                                   ("16,384 equal words over both seams", b"a" * 16128, b"a" * 256, b"12000,12000", b"0,1,16384,61\r\n")]:
         yield name, {"pattern.bin": s, "block.bin": b, "edit.csv": EDIT + row + b"\r\n"}, HEADER + want
     for name, s, b, row in [("P5", SHEET, b"b", b"5,6"), ("P6", SHEET, b"a", b"11,11"), ("P13, leading zeros", b"aba", b"c", b"00003,3"),
-                            ("emptied", SHEET, b"", b"0,13"), ("4,097 bytes", full[:4097], b"b", b"4096,4097"), ("full size", full, full[:256], b"15000,15256"), ("4", full, b"xx", b"5,5"), ("4 by one byte", full, b"x", b"16384,16384"), ("to the longest by one byte", full[:-1], b"x", b"16383,16383"), ("2 by one", full, b"", b"16384,16385"),
-                            ("3", SHEET, bytes(257), b"0,1"), ("3 before 4", full, bytes(257), b"5,5"), ("2 before 3", SHEET, bytes(257), b"5,4"), ("past the end", SHEET, b"", b"0,14"), ("as many starts as there may be", b"a" * LIMIT, b"", b"0,0"),
+                            ("emptied", SHEET, b"", b"0,13"), ("4,097 bytes", full[:4097], b"b", b"4096,4097"),
+                            ("full size", full, full[:256], b"15000,15256"), ("to the longest by one byte", full[:-1], b"x", b"16383,16383"),
+                            ("4", full, b"xx", b"5,5"), ("4 by one byte", full, b"x", b"16384,16384"), ("2 by one", full, b"", b"16384,16385"),
+                            ("3", SHEET, bytes(257), b"0,1"), ("3 before 4", full, bytes(257), b"5,5"), ("2 before 3", SHEET, bytes(257), b"5,4"),
+                            ("past the end", SHEET, b"", b"0,14"), ("as many starts as there may be", b"a" * LIMIT, b"", b"0,0"),
                             ("256 middle groups", b"", bytes(range(255, -1, -1)), b"0,0")]:
         csv = EDIT + row + b"\r\n"
         yield name, {"pattern.bin": s, "block.bin": b, "edit.csv": csv}, edited(s, b, csv)

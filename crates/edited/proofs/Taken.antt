@@ -15,7 +15,7 @@ use Rattle.lyndon_edit.specs.Calls.{EditsNumbers}
 use Rattle.refusals.proofs.First.{first-zero}
 use Rattle.refusals.specs.Refusals.{editRefusals, Refusal, firstOf, maxPattern, tooShort}
 use Rattle.rows.specs.Written.{Room}
-use Rattle.text.proofs.Lengths.{listing-room}
+use Rattle.text.proofs.Lines.{listing-room}
 use Rattle.text.specs.Inner.{maxListing}
 use Rattle.text.specs.Listing.{editedText}
 use Rattle.words.proofs.Edit.{length-edited}

@@ -9,8 +9,7 @@ use Rattle.lyndon_text.specs.Calls.{ListingWritten}
 use Rattle.refusals.specs.Refusals.{firstOf, rowAfter, maxPattern, patternTooLong, tooShort}
 use Rattle.refusals.specs.declared.Filled.{Filled}
 use Rattle.refusals.proofs.First.{First, first-is, too-long, not-long, not-short}
-use Rattle.text.proofs.Lengths.{listing-room}
-use Rattle.text.proofs.Lines.{refusal-room}
+use Rattle.text.proofs.Lines.{listing-room, refusal-room}
 use Rattle.text.proofs.Begins.{puts-begins}
 use Rattle.text.specs.Inner.{maxListing}
 use Rattle.text.specs.Listing.{listingText, refusalText, printed, Begins}

@@ -1,4 +1,4 @@
--- A line as its writer makes it, field by field, and the lines of a pass over the groups.
+-- A line as its writer makes it, field by field, the lines of a pass over the groups, and the listing, with a buffer length that always suffices.
 use mathlib.Core.List.{List, _++_}
 use mathlib.Core.Path.{_≡_, ap, _∙_}
 use Prim.Native.Nat.{ℕ, _+_, _-_, _*_, _≤_, _<_}
@@ -6,16 +6,18 @@ use native.Mathlib.Omega.{arith}
 use lib.ListN.{length, take, drop, length-append, length-drop}
 use lib.Seq.{length-take-le}
 use Rattle.rows.proofs.Wrote.{Wrote, wrote-part, wrote-room}
+use Rattle.refusals.specs.Refusals.{maxPattern}
 use Rattle.scan.specs.Group.{NextGroup}
 use Rattle.scan.proofs.Next.{groups-start}
 use Rattle.scan.proofs.Pass.{length-fits}
 use Rattle.words.specs.Tables.{suffixGroups}
 use Rattle.decimal.specs.Decimal.{codes, decimal}
 use Rattle.text.specs.Hexadecimal.{hexadecimal}
+use Rattle.text.specs.Inner.{maxListing}
 use Rattle.text.specs.Listing.{header, lineEnd, field, line, lines, listingText, refusalText}
 use Rattle.rows.specs.Written.{Room, Puts}
 use Rattle.decimal.proofs.Decimal.{count-least, length-decimal}
-use Rattle.text.proofs.Lengths.{length-header, line-parts}
+use Rattle.text.proofs.Lengths.{length-header, line-parts, suffix-most}
 use Rattle.rows.proofs.Puts.{puts-then}
 
 pub line-put : (start power : ℕ) (word d : List ℕ) (i : ℕ) {b₁ b₂ b₃ b₄ b₅ : List ℕ} {n₁ n₂ n₃ n₄ n₅ : ℕ}
@@ -71,6 +73,10 @@ pub listing-length : (s : List ℕ) → length (listingText s) ≡ 25 + length (
 listing-length s =
     let rest = lines s (suffixGroups s 0) in
     ap length (listing-parts s) ∙ length-append header rest ∙ ap (λ n. n + length rest) length-header
+
+-- a buffer of this length always suffices
+pub listing-room : (s : List ℕ) → length s ≤ maxPattern → length (listingText s) ≤ maxListing
+listing-room s h = omega (arith, listing-length s, suffix-most s 0 (omega arith) (omega arith))
 
 pub listing-put : (s d : List ℕ) {b b′ : List ℕ} {n m : ℕ} → Room (listingText s) 0 d → Puts header 0 d b n
     → Puts (lines s (suffixGroups s 0)) n b b′ m → Puts (listingText s) 0 d b′ m
