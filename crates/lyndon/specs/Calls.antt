@@ -1,13 +1,14 @@
 -- What the calls for factors and tables answer and leave in the lent row, for every input: the refusals in their order, then the result.
+use mathlib.Core.Bool.{Bool, true, false}
 use mathlib.Core.List.{List, [], _∷_}
 use mathlib.Core.Path.{_≡_}
-use Prim.Native.Nat.{ℕ}
-use lib.ListN.{length}
+use Prim.Native.Nat.{ℕ, _≤_, _<_}
+use lib.ListN.{length, getD}
 use Rattle.rows.specs.Row.{written}
 use Rattle.words.specs.Factors.{Factorisation, groupsFrom, groupNumbers}
 use Rattle.words.specs.Tables.{lyndonArray, lastFactors, groups}
 use Rattle.refusals.specs.Filled.{Fills}
-use Rattle.refusals.specs.Refusals.{patternTooLong, tooShort}
+use Rattle.refusals.specs.Refusals.{patternTooLong, tooShort, maxWanted, wantedTooLong, noPattern}
 use Rattle.refusals.specs.declared.Filled.{Filled}
 
 -- factor. And in the words of demand 2: of every split with the three qualities, the row holds the groups.
@@ -22,3 +23,16 @@ ArrayMade s row row′ r = Fills (patternTooLong s ∷ tooShort (length (lyndonA
 -- last_factors
 abbrev pub LastFactorsMade : List ℕ → List ℕ → List ℕ → Filled → Type 0
 LastFactorsMade s row row′ r = Fills (patternTooLong s ∷ tooShort (length (lastFactors s)) (length row) ∷ []) (lastFactors s) (length s) row row′ r
+
+-- realise_array: a byte pattern whose reach table is the wanted one, so it is as long
+pub record HasArray (wanted s : List ℕ) : Type 0 where
+  pub bytes : (i : ℕ) → i < length s → getD s i 0 < 256
+  pub array : lyndonArray s ≡ wanted
+
+-- The pattern written is some such pattern. 12 is the answer where `none` holds: no byte pattern has the table, and exactly then, since otherwise this one has it.
+pub record ArrayRealised (wanted row row′ : List ℕ) (r : Filled) : Type 0 where
+  pub pattern : List ℕ
+  pub none : Bool
+  pub fills : Fills (wantedTooLong wanted ∷ noPattern none ∷ tooShort (length wanted) (length row) ∷ []) pattern (length wanted) row row′ r
+  pub lacks : none ≡ true → (s : List ℕ) → HasArray wanted s → ⊥
+  pub has : none ≡ false → length wanted ≤ maxWanted → HasArray wanted pattern

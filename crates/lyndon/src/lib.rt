@@ -1,13 +1,17 @@
-// The public library on one pattern: its factors and both tables. What asks for words is `lyndon_words`, for factors of a part `lyndon_parts`.
-// Each call tests its refusals in number order and then calls the crate that does the work; none of them requires anything.
+// The public library on one pattern: its factors, both tables, and back from a wanted reach table to a pattern that has it. What asks for words
+// is `lyndon_words`, for factors of a part `lyndon_parts`.
+// Each call tests its refusals in the documents' order and then calls the crate that does the work; none of them requires anything.
 use factoring::count_groups;
 use factoring::write_groups;
 use prefix_table::make_last_factors;
 use reach_table::make_lyndon_array;
+use realisation::nests;
+use realisation::write_symbols;
 use refusals::Filled;
 use refusals::MAX_PATTERN;
+use refusals::MAX_WANTED;
 use refusals::refused;
-ghost use Rattle.lyndon.specs.Calls.{Factored, ArrayMade, LastFactorsMade};
+ghost use Rattle.lyndon.specs.Calls.{Factored, ArrayMade, LastFactorsMade, ArrayRealised};
 
 // The groups of the pattern's factors, three numbers each: start, factor length, power. Refusals 1, 8.
 pub fn factor(pattern: &[u8], groups: &mut [u16]) -> Filled
@@ -55,5 +59,25 @@ pub fn last_factors(pattern: &[u8], last: &mut [u16]) -> Filled
     Filled {
         refusal: 0,
         count: pattern.len(),
+    }
+}
+
+// A pattern whose reach table is the wanted one; where there are several, one of them. Refusals 11, 12, 8.
+pub fn realise_array(wanted: &[u16], pattern: &mut [u8]) -> Filled
+    ensures { λ r. ⌜ ArrayRealised (now (wanted .entry)) (now (pattern .entry)) (now (pattern .exit)) r ⌝ }
+{
+    if MAX_WANTED < wanted.len() {
+        return refused(11);
+    }
+    if !nests(wanted) {
+        return refused(12);
+    }
+    if pattern.len() < wanted.len() {
+        return refused(8);
+    }
+    write_symbols(wanted, pattern);
+    Filled {
+        refusal: 0,
+        count: wanted.len(),
     }
 }

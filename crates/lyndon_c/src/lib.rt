@@ -6,6 +6,7 @@ use block::read_block;
 use block::write_block;
 use lyndon::factor;
 use lyndon::last_factors;
+use lyndon::realise_array;
 use lyndon_parts::factor_prefix;
 use lyndon_parts::factor_suffix;
 use lyndon_text::write_listing;
@@ -14,7 +15,7 @@ use lyndon_words::least_rotation;
 use lyndon_words::longest_word;
 use lyndon_words::longest_words;
 use rows::write_bytes;
-ghost use Rattle.lyndon.specs.Calls.{Factored, ArrayMade, LastFactorsMade};
+ghost use Rattle.lyndon.specs.Calls.{Factored, ArrayMade, LastFactorsMade, ArrayRealised};
 ghost use Rattle.lyndon_words.specs.Calls.{StartsListed, wordPart, LyndonTold, RotationFound, TreeListed};
 ghost use Rattle.lyndon_parts.specs.Calls.{PrefixFactored, SuffixFactored};
 ghost use Rattle.lyndon_text.specs.Calls.{ListingWritten};
@@ -44,6 +45,15 @@ pub extern "C" fn lyndon_last_factors(pattern: &[u8], table: &mut [u16], count: 
     ensures { λ r. ⌜ LastFactorsMade (now (pattern .entry)) (now (table .entry)) (now (table .exit)) (record { refusal = r; count = now (count .exit) }) ⌝ }
 {
     let answer = last_factors(pattern, table);
+    *count = answer.count;
+    answer.refusal
+}
+
+#[no_mangle]
+pub extern "C" fn lyndon_realise_array(wanted: &[u16], pattern: &mut [u8], count: &mut usize) -> u8
+    ensures { λ r. ⌜ ArrayRealised (now (wanted .entry)) (now (pattern .entry)) (now (pattern .exit)) (record { refusal = r; count = now (count .exit) }) ⌝ }
+{
+    let answer = realise_array(wanted, pattern);
     *count = answer.count;
     answer.refusal
 }

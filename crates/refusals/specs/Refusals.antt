@@ -39,6 +39,9 @@ maxBlock = 256
 abbrev pub maxTree : ℕ
 maxTree = 256
 
+abbrev pub maxWanted : ℕ
+maxWanted = 256
+
 abbrev pub patternTooLong : List ℕ → Refusal
 patternTooLong s = record { number = 1; holds = ltb maxPattern (length s) }
 
@@ -72,6 +75,13 @@ tooShort needs room = record { number = 8; holds = ltb room needs }
 -- A shorter word repeated two or more times.
 abbrev pub patternRepeated : List ℕ → Refusal
 patternRepeated s = record { number = 10; holds = repeated s }
+
+abbrev pub wantedTooLong : List ℕ → Refusal
+wantedTooLong wanted = record { number = 11; holds = ltb maxWanted (length wanted) }
+
+-- No byte pattern has the wanted table: the call says what this means.
+abbrev pub noPattern : Bool → Refusal
+noPattern none = record { number = 12; holds = none }
 
 -- The refusals of an edit that need no result: 1 to 5.
 abbrev pub editRefusals : List ℕ → List ℕ → List ℕ → ℕ → ℕ → List ℕ → List Refusal

@@ -11,6 +11,9 @@ pub const MAX_BLOCK: usize = 256;
 // The longest word of a tree.
 pub const MAX_TREE: usize = 256;
 
+// The longest wanted table.
+pub const MAX_WANTED: usize = 256;
+
 // The answer of a call that fills a row: the refusal's number, 0 for none, and how many entries of its kind it wrote.
 pub struct Filled {
     pub refusal: u8,

@@ -43,7 +43,7 @@ pub filled-none : (f : ℕ → ℕ) (n : ℕ) (d : List ℕ) (i : ℕ) → Fille
 filled-none f n d i = record { size = refl; inside = right-none f d i; before = λ k a. refl; past = λ k a. refl }
 
 -- an entry after a write at j
-set-entry : (row : List ℕ) (j x k v : ℕ) → j < length row → (k ≡ j → x ≡ v) → ((k ≡ j → ⊥) → getD row k 0 ≡ v)
+pub set-entry : (row : List ℕ) (j x k v : ℕ) → j < length row → (k ≡ j → x ≡ v) → ((k ≡ j → ⊥) → getD row k 0 ≡ v)
     → getD (set row j x) k 0 ≡ v
 set-entry row j x k v h here there = go (threeN k j)
   where

@@ -1,0 +1,23 @@
+-- The two laws of wanted tables: which tables are reach tables, and that one of no more than 256 entries is then that of a byte pattern.
+use mathlib.Core.List.{List}
+use mathlib.Core.Logic.{_↔_}
+use mathlib.Core.Path.{_≡_}
+use Prim.Native.Nat.{ℕ, _≤_, _<_}
+use native.Mathlib.Omega.{arith}
+use lib.ListN.{length, getD}
+use Rattle.refusals.specs.Refusals.{maxWanted}
+use Rattle.words.specs.Tables.{lyndonArray}
+use Rattle.realisation.specs.Nested.{Nests}
+use Rattle.realisation.specs.Symbols.{symbols}
+use Rattle.realisation.proofs.Nested.{array-nests}
+use Rattle.realisation.proofs.Symbols.{symbols-array, symbols-length, symbols-entry, symbol-bound}
+
+-- a table is the reach table of some list of numbers exactly when its stretches nest
+pub reach-tables : (t : List ℕ) → Nests t ↔ ((s : List ℕ) × (lyndonArray s ≡ t))
+reach-tables t = (λ n. (symbols t, symbols-array n), λ (s, e). rw e at (array-nests s))
+
+-- the symbols of a table that is no longer than wanted ones may be are bytes
+pub symbols-bytes : {t : List ℕ} → Nests t → length t ≤ maxWanted → (i : ℕ) → i < length (symbols t) → getD (symbols t) i 0 < 256
+symbols-bytes {t} n h i l =
+    let k : i < length t = omega (arith, symbols-length t) in
+    omega (arith, symbols-entry t i k, symbol-bound n i k)

@@ -1,0 +1,268 @@
+-- `realisation::write_symbols` meets its contract: the ends of the first k stretches are counted; the symbols from i on are made.
+use mathlib.Core.Path.{_≡_}
+use Prim.Native.Nat.{_+_, _-_, _≤_, _<_}
+use lib.ListN.{length, getD}
+use Rattle.rows.proofs.Fill.{Filled, filled-none, filled-down, filled-all}
+use Rattle.realisation.specs.Symbols.{symbolAt}
+use Rattle.realisation.proofs.Made.{Counted, counted-none, counted-few, counted-turn, counted-some, counted-back, made-below, below-fits, made-last, last-fits, symbols-list}
+use borrow.Author.Needs.{needs}
+use native.Mathlib.Omega.{arith}
+use Rattle.realisation.proofs.write_symbols.Statement.{statement}
+use Rattle.realisation.proofs.write_symbols.Tie as tie
+use Rattle.realisation.proofs.write_symbols.Reads as reads
+use Rattle.realisation.proofs.write_symbols.Lts as lts
+
+abbrev Inv-loop : tie.InvT-loop
+Inv-loop table pattern n ends₀ k₀ ends k = (k ≤ length table) × Counted table k ends
+
+abbrev μ-loop : tie.MeasureT-loop
+μ-loop table pattern n ends₀ k₀ ends k = length table - k
+
+abbrev Inv-loop2 : tie.InvT-loop2
+Inv-loop2 table pattern₀ n ends₀ k i₀ pattern ends i = (i ≤ length table) × Counted table i ends × Filled (symbolAt table) (length table) pattern₀ pattern i (length table)
+
+abbrev μ-loop2 : tie.MeasureT-loop2
+μ-loop2 table pattern₀ n ends₀ k i₀ pattern ends i = i
+
+loop-holds : tie.Need-loop-holds Inv-loop μ-loop Inv-loop2 μ-loop2
+loop-holds c = (omega arith, counted-none (c .args .table .now) 257 (omega (arith, c .pre .0)))
+
+mul-end : tie.Need-mul-end Inv-loop μ-loop Inv-loop2 μ-loop2
+mul-end c = search needs
+
+shared-slice-read-end : tie.Need-shared-slice-read-end Inv-loop μ-loop Inv-loop2 μ-loop2
+shared-slice-read-end c = search needs
+
+cast-end : tie.Need-cast-end Inv-loop μ-loop Inv-loop2 μ-loop2
+cast-end c = omega (arith, c .shared-slice-known .given (c .before .before .loop .k))
+
+add-end : tie.Need-add-end Inv-loop μ-loop Inv-loop2 μ-loop2
+add-end c = omega (arith, c .shared-slice-known .given (c .before .before .loop .k))
+
+mul-ends : tie.Need-mul-ends Inv-loop μ-loop Inv-loop2 μ-loop2
+mul-ends c =
+    let l = c .before .before in
+    let b = l .before in
+    let i = l .loop .k in
+    let h : i < length (b .args .table .now) = omega arith in
+    omega (arith, b .pre .2 .within i h)
+
+array-read-ends : tie.Need-array-read-ends Inv-loop μ-loop Inv-loop2 μ-loop2
+array-read-ends c =
+    let l = c .before .before in
+    let b = l .before in
+    let i = l .loop .k in
+    let h : i < length (b .args .table .now) = omega arith in
+    omega (arith, b .pre .2 .within i h)
+
+add-ends : tie.Need-add-ends Inv-loop μ-loop Inv-loop2 μ-loop2
+add-ends c =
+    let l = c .before .before in
+    let b = l .before in
+    let i = l .loop .k in
+    let h : i < length (b .args .table .now) = omega arith in
+    omega (arith, counted-few (b .pre .2) h (l .loop .inv .1))
+
+array-write-ends : tie.Need-array-write-ends Inv-loop μ-loop Inv-loop2 μ-loop2
+array-write-ends c =
+    let l = c .before .before in
+    let b = l .before in
+    let i = l .loop .k in
+    let h : i < length (b .args .table .now) = omega arith in
+    omega (arith, b .pre .2 .within i h)
+
+add-k : tie.Need-add-k Inv-loop μ-loop Inv-loop2 μ-loop2
+add-k c = search needs
+
+loop-less : tie.Need-loop-less Inv-loop μ-loop Inv-loop2 μ-loop2
+loop-less c = search needs
+
+loop-again : tie.Need-loop-again Inv-loop μ-loop Inv-loop2 μ-loop2
+loop-again c =
+    let l = c .before .before in
+    let b = l .before in
+    let i = l .loop .k in
+    let h : i < length (b .args .table .now) = omega arith in
+    (omega arith, counted-turn (b .pre .2) h (l .loop .inv .1))
+
+loop2-holds : tie.Need-loop2-holds Inv-loop μ-loop Inv-loop2 μ-loop2
+loop2-holds c =
+    let l = c .before in
+    let a = l .before .args in
+    let t = a .table .now in
+    let e : l .loop .k ≡ length t = omega arith in
+    (omega arith, rw e at (l .loop .inv .1), filled-none (symbolAt t) (length t) (a .pattern .now) (length t))
+
+sub-i : tie.Need-sub-i Inv-loop μ-loop Inv-loop2 μ-loop2
+sub-i c = search needs
+
+mul-end-2 : tie.Need-mul-end-2 Inv-loop μ-loop Inv-loop2 μ-loop2
+mul-end-2 c = search needs
+
+shared-slice-read-end-2 : tie.Need-shared-slice-read-end-2 Inv-loop μ-loop Inv-loop2 μ-loop2
+shared-slice-read-end-2 c = search needs
+
+cast-end-2 : tie.Need-cast-end-2 Inv-loop μ-loop Inv-loop2 μ-loop2
+cast-end-2 c = omega (arith, c .shared-slice-known2 .given (c .before .before .loop2 .i - 1))
+
+add-end-2 : tie.Need-add-end-2 Inv-loop μ-loop Inv-loop2 μ-loop2
+add-end-2 c = omega (arith, c .shared-slice-known2 .given (c .before .before .loop2 .i - 1))
+
+mul-earlier : tie.Need-mul-earlier Inv-loop μ-loop Inv-loop2 μ-loop2
+mul-earlier c =
+    let l = c .before .before in
+    let b = l .before .before .before in
+    let i = l .loop2 .i - 1 in
+    let h : i < length (b .args .table .now) = omega arith in
+    omega (arith, b .pre .2 .within i h)
+
+array-read-earlier : tie.Need-array-read-earlier Inv-loop μ-loop Inv-loop2 μ-loop2
+array-read-earlier c =
+    let l = c .before .before in
+    let b = l .before .before .before in
+    let i = l .loop2 .i - 1 in
+    let h : i < length (b .args .table .now) = omega arith in
+    omega (arith, b .pre .2 .within i h)
+
+sub-earlier : tie.Need-sub-earlier Inv-loop μ-loop Inv-loop2 μ-loop2
+sub-earlier c =
+    let l = c .before .before in
+    let b = l .before .before .before in
+    let i = l .loop2 .i - 1 in
+    let h : i < length (b .args .table .now) = omega arith in
+    omega (arith, counted-some (b .pre .2) h (omega arith) (l .loop2 .inv .1))
+
+mul-ends-2 : tie.Need-mul-ends-2 Inv-loop μ-loop Inv-loop2 μ-loop2
+mul-ends-2 c =
+    let l = c .before .before in
+    let b = l .before .before .before in
+    let i = l .loop2 .i - 1 in
+    let h : i < length (b .args .table .now) = omega arith in
+    omega (arith, b .pre .2 .within i h)
+
+array-write-ends-2 : tie.Need-array-write-ends-2 Inv-loop μ-loop Inv-loop2 μ-loop2
+array-write-ends-2 c =
+    let l = c .before .before in
+    let b = l .before .before .before in
+    let i = l .loop2 .i - 1 in
+    let h : i < length (b .args .table .now) = omega arith in
+    omega (arith, b .pre .2 .within i h)
+
+slice-read-pattern : tie.Need-slice-read-pattern Inv-loop μ-loop Inv-loop2 μ-loop2
+slice-read-pattern c = omega (arith, c .before .before .before .before .loop2 .inv .2 .size)
+
+add-pattern : tie.Need-add-pattern Inv-loop μ-loop Inv-loop2 μ-loop2
+add-pattern c =
+    let l = c .before .before .before .before in
+    let b = l .before .before .before in
+    let i = l .loop2 .i - 1 in
+    let h : i < length (b .args .table .now) = omega arith in
+    omega (arith, below-fits (b .pre .2) h (omega arith) (l .loop2 .inv .1) (l .loop2 .inv .2) (omega arith))
+
+cast-pattern : tie.Need-cast-pattern Inv-loop μ-loop Inv-loop2 μ-loop2
+cast-pattern c =
+    let l = c .before .before .before .before in
+    let b = l .before .before .before in
+    let i = l .loop2 .i - 1 in
+    let h : i < length (b .args .table .now) = omega arith in
+    omega (arith, below-fits (b .pre .2) h (omega arith) (l .loop2 .inv .1) (l .loop2 .inv .2) (omega arith))
+
+add-pattern-2 : tie.Need-add-pattern-2 Inv-loop μ-loop Inv-loop2 μ-loop2
+add-pattern-2 c =
+    let l = c .before .before .before .before in
+    let b = l .before .before .before in
+    let i = l .loop2 .i - 1 in
+    let h : i < length (b .args .table .now) = omega arith in
+    omega (arith, below-fits (b .pre .2) h (omega arith) (l .loop2 .inv .1) (l .loop2 .inv .2) (omega arith))
+
+slice-write-pattern : tie.Need-slice-write-pattern Inv-loop μ-loop Inv-loop2 μ-loop2
+slice-write-pattern c = omega (arith, c .before .before .before .before .loop2 .inv .2 .size)
+
+loop2-less : tie.Need-loop2-less Inv-loop μ-loop Inv-loop2 μ-loop2
+loop2-less c = search needs
+
+loop2-again : tie.Need-loop2-again Inv-loop μ-loop Inv-loop2 μ-loop2
+loop2-again c =
+    let l = c .before .before .before .before in
+    let b = l .before .before .before in
+    let i = l .loop2 .i - 1 in
+    let h : i < length (b .args .table .now) = omega arith in
+    let e = made-below (b .pre .2) h (omega arith) (l .loop2 .inv .1) (l .loop2 .inv .2) (omega arith) in
+    (omega arith, counted-back (b .pre .2) h (omega arith) (l .loop2 .inv .1), filled-down (l .loop2 .inv .2) (omega arith) i _ e h (omega arith))
+
+cast-pattern-2 : tie.Need-cast-pattern-2 Inv-loop μ-loop Inv-loop2 μ-loop2
+cast-pattern-2 c =
+    let l = c .before .before .before in
+    let b = l .before .before .before in
+    let i = l .loop2 .i - 1 in
+    let h : i < length (b .args .table .now) = omega arith in
+    omega (arith, last-fits (b .pre .2) h (omega arith) (l .loop2 .inv .1) (omega arith))
+
+slice-write-pattern-2 : tie.Need-slice-write-pattern-2 Inv-loop μ-loop Inv-loop2 μ-loop2
+slice-write-pattern-2 c = omega (arith, c .before .before .before .loop2 .inv .2 .size)
+
+loop2-less-2 : tie.Need-loop2-less-2 Inv-loop μ-loop Inv-loop2 μ-loop2
+loop2-less-2 c = search needs
+
+loop2-again-2 : tie.Need-loop2-again-2 Inv-loop μ-loop Inv-loop2 μ-loop2
+loop2-again-2 c =
+    let l = c .before .before .before in
+    let b = l .before .before .before in
+    let i = l .loop2 .i - 1 in
+    let h : i < length (b .args .table .now) = omega arith in
+    let e = made-last (b .pre .2) h (omega arith) (l .loop2 .inv .1) (omega arith) in
+    (omega arith, counted-back (b .pre .2) h (omega arith) (l .loop2 .inv .1), filled-down (l .loop2 .inv .2) (omega arith) i _ e h (omega arith))
+
+same-length : tie.Need-same-length Inv-loop μ-loop Inv-loop2 μ-loop2
+same-length c = c .before .loop2 .inv .2 .size
+
+returns : tie.Need-returns Inv-loop μ-loop Inv-loop2 μ-loop2
+returns c =
+    let l = c .before in
+    let e : l .loop2 .i ≡ 0 = omega arith in
+    filled-all (symbols-list (l .before .before .before .args .table .now)) (l .loop2 .pattern) (omega arith) (rw e at (l .loop2 .inv .2))
+
+pub write-symbols-spec : {M : Type 1} → statement M
+write-symbols-spec =
+    tie.close
+    (tie.spec
+    Inv-loop
+    μ-loop
+    Inv-loop2
+    μ-loop2
+    loop-holds
+    mul-end
+    shared-slice-read-end
+    cast-end
+    add-end
+    mul-ends
+    array-read-ends
+    add-ends
+    array-write-ends
+    add-k
+    loop-less
+    loop-again
+    loop2-holds
+    sub-i
+    mul-end-2
+    shared-slice-read-end-2
+    cast-end-2
+    add-end-2
+    mul-earlier
+    array-read-earlier
+    sub-earlier
+    mul-ends-2
+    array-write-ends-2
+    slice-read-pattern
+    add-pattern
+    cast-pattern
+    add-pattern-2
+    slice-write-pattern
+    loop2-less
+    loop2-again
+    cast-pattern-2
+    slice-write-pattern-2
+    loop2-less-2
+    loop2-again-2
+    same-length
+    returns)

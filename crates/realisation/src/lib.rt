@@ -1,0 +1,66 @@
+// A pattern for a wanted reach table: whether the table's stretches nest, and a pattern that has the table where they do. That no other
+// table is one is proved in proofs/; refusals and the room for the pattern are the caller's concern.
+use refusals::MAX_WANTED;
+ghost use mathlib.Core.Path.{_≡_};
+ghost use Prim.Native.Nat.{_≤_};
+ghost use lib.ListN.{length};
+ghost use Rattle.realisation.specs.Nested.{Nests, NestsTold};
+ghost use Rattle.realisation.specs.Symbols.{symbols};
+ghost use Rattle.refusals.specs.Refusals.{maxWanted};
+ghost use Rattle.rows.specs.Row.{written};
+
+// Whether the stretches nest, from the right: those behind i, which nest, follow one another from i + 1 to the end of the one at i, or one crosses it.
+// Each place is passed over once, so this is linear.
+pub fn nests(table: &[u16]) -> bool
+    requires { ⌜ length (now table) ≤ maxWanted ⌝ }
+    ensures { λ r. ⌜ NestsTold (now (table .entry)) r ⌝ }
+{
+    let n = table.len();
+    let mut i = n;
+    while 0 < i {
+        i -= 1;
+        let end = i + table[i] as usize;
+        if end == i {
+            return false;
+        }
+        if n < end {
+            return false;
+        }
+        let mut j = i + 1;
+        while j < end {
+            j += table[j] as usize;
+            if end < j {
+                return false;
+            }
+        }
+    }
+    true
+}
+
+// Writes a pattern that has the table.
+pub fn write_symbols(table: &[u16], pattern: &mut [u8])
+    requires { ⌜ (length (now table) ≤ maxWanted) × (length (now table) ≤ length (now pattern)) × Nests (now table) ⌝ }
+    ensures { λ _. ⌜ now (pattern .exit) ≡ written (symbols (now (table .entry))) (now (pattern .entry)) ⌝ }
+{
+    let n = table.len();
+    // how many stretches end at a place, of those that start before the next one to be given its symbol
+    let mut ends = [0u16; MAX_WANTED + 1];
+    let mut k = 0;
+    while k < n {
+        let end = k + table[k] as usize;
+        ends[end] += 1;
+        k += 1;
+    }
+    let mut i = n;
+    while 0 < i {
+        i -= 1;
+        let end = i + table[i] as usize;
+        let earlier = ends[end] - 1;
+        ends[end] = earlier;
+        if end < n {
+            pattern[i] = pattern[end] + 1 + earlier as u8;
+        } else {
+            pattern[i] = earlier as u8;
+        }
+    }
+}
