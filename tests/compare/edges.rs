@@ -4,10 +4,11 @@ use crate::calls::{self, Side};
 use crate::edits;
 use crate::engine::{self, Given, Group};
 use crate::families::{A, B};
-use crate::fast::FAST;
+use crate::fast::{self, FAST};
 use crate::loops;
 use crate::right::{Facts, LIMIT};
-use crate::tally::{Random, Tally, show};
+use crate::tally::{Random, Tally, brief, show};
+use crate::wanted;
 
 const MAX: usize = usize::MAX;
 
@@ -163,6 +164,7 @@ fn rows(t: &mut Tally) {
     say("longest_word", 4, &|row| engine::longest_word(w, &mut vec![0; row.len()]).0);
     say("write_listing", 69, &|row| engine::write_listing(w, &mut vec![0; row.len()]).0);
     say("write_block", 17, &|row| engine::write_block(w, &mut vec![0; row.len()]).0);
+    say("realise_array", 6, &|row| engine::realise_array(&[6, 1, 4, 1, 2, 1], &mut vec![0; row.len()]).0);
     say("tree", 18, &|row| engine::tree(b"aabab", row).0);
     say("factor_prefix", 6, &|row| engine::factor_prefix(w, &f.last, 9, row).0);
     say("factor_suffix", 3, &|row| engine::factor_suffix(w, &f.array, 9, row).0);
@@ -193,6 +195,24 @@ fn repeated(t: &mut Tally, long: &[u8]) {
     }
 }
 
+/// 11: 256 entries are accepted. 12: an entry of 0, one past the end, one that crosses another.
+fn wanted_tables(t: &mut Tally) {
+    let falling = |n: u16| (1..=n).rev().collect::<Vec<u16>>();
+    #[rustfmt::skip]
+    let all = [
+        (vec![1; 255], 0), (vec![1; 256], 0), (vec![1; 257], 11), (vec![1; 65_537], 11), (vec![0; 256], 12), (vec![0; 257], 11),
+        (falling(256), 0), (falling(257), 11), (vec![], 0), (vec![1], 0), (vec![0], 12), (vec![2], 12), (vec![0xFFFF], 12),
+        (vec![2, 1], 0), (vec![3, 1], 12), (vec![2, 0], 12), (vec![2, 2], 12), (vec![1, 0xFFFF], 12), (vec![0xFFFF, 1], 12),
+        (vec![2, 2, 1], 12), (vec![3, 2, 1], 0), (vec![2, 1, 1], 0), (vec![3, 3, 1, 1], 12), (vec![4, 3, 1, 1], 0),
+    ];
+    for (table, want) in all {
+        t.equal(&engine::realise_array(&table, &mut [0; 260]).0, &want, || format!("realise_array of {}", brief(&table)));
+        if want != 11 {
+            wanted::one(t, &table, want == 0, table.len(), fast::reach);
+        }
+    }
+}
+
 pub fn all(t: &mut Tally, r: &mut Random) {
     let long = r.letters(&[A, B], 65_536 + 700);
     for (n, tabled, want) in [(LIMIT - 1, LIMIT - 1, 0), (LIMIT, LIMIT, 0), (LIMIT + 1, LIMIT + 1, 1), (65_536, 9, 1), (long.len(), 700, 1)]
@@ -203,6 +223,7 @@ pub fn all(t: &mut Tally, r: &mut Random) {
         positions(t, &long[..n]);
     }
     blocks(t, &long[..LIMIT]);
+    wanted_tables(t);
     tables(t, &long[..13]);
     tables(t, &long[..LIMIT]);
     trees(t);

@@ -49,6 +49,7 @@ unsafe extern "C" {
     fn lyndon_factor(pattern: *const u8, pattern_len: usize, groups: *mut u16, groups_len: usize, count: *mut usize) -> u8;
     fn lyndon_array(pattern: *const u8, pattern_len: usize, table: *mut u16, table_len: usize, count: *mut usize) -> u8;
     fn lyndon_last_factors(pattern: *const u8, pattern_len: usize, table: *mut u16, table_len: usize, count: *mut usize) -> u8;
+    fn lyndon_realise_array(wanted: *const u16, wanted_len: usize, pattern: *mut u8, pattern_len: usize, count: *mut usize) -> u8;
     fn lyndon_longest_words(pattern: *const u8, pattern_len: usize, starts: *mut u16, starts_len: usize, size: *mut usize, count: *mut usize) -> u8;
     fn lyndon_longest_word(pattern: *const u8, pattern_len: usize, word: *mut u8, word_len: usize, size: *mut usize) -> u8;
     // `yes` is a bool for C; read as a byte, so that another value than 0 and 1 is seen
@@ -88,6 +89,12 @@ pub fn array(pattern: &[u8], table: &mut [u16]) -> Answer {
 
 pub fn last_factors(pattern: &[u8], table: &mut [u16]) -> Answer {
     fill(lyndon_last_factors, pattern, table)
+}
+
+pub fn realise_array(wanted: &[u16], pattern: &mut [u8]) -> Answer {
+    let mut count = UNSET;
+    let refusal = unsafe { lyndon_realise_array(wanted.as_ptr(), wanted.len(), pattern.as_mut_ptr(), pattern.len(), &mut count) };
+    (refusal, [count, 0])
 }
 
 /// Length, then the number of starts.

@@ -55,7 +55,7 @@ fn suffix_ranks(w: &[u8]) -> Vec<u32> {
 }
 
 /// The longest Lyndon substring at i ends where the first smaller suffix starts.
-fn reach(w: &[u8]) -> Vec<u16> {
+pub fn reach(w: &[u8]) -> Vec<u16> {
     let ranks = suffix_ranks(w);
     let mut table = vec![0; w.len()];
     let mut waiting: Vec<usize> = Vec::new();

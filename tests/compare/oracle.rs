@@ -90,9 +90,15 @@ fn groups_of(w: &[u8]) -> Vec<Group> {
 }
 
 /// Entry i: the length of the longest Lyndon substring that starts at i.
-fn reach(w: &[u8]) -> Vec<u16> {
+pub fn reach(w: &[u8]) -> Vec<u16> {
     let longest_at = |i: usize| (1..=w.len() - i).rev().find(|&k| is_lyndon(&w[i..i + k])).unwrap();
     (0..w.len()).map(|i| longest_at(i) as u16).collect()
+}
+
+/// Whether each stretch, entry i being its length from i on, holds its start and ends within the table, and one that starts inside another ends inside it.
+pub fn nests(table: &[u16]) -> bool {
+    let (n, end) = (table.len(), |i: usize| i + usize::from(table[i]));
+    (0..n).all(|i| i < end(i) && end(i) <= n && (i + 1..end(i)).all(|j| end(j) <= end(i)))
 }
 
 /// Entry q - 1: the length of the last factor of the first q bytes.

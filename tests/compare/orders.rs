@@ -1,5 +1,5 @@
-//! Two and more refusals at once: the first in number order is answered, but 9 before 1. Every pair that can hold of a call must have been
-//! met alone.
+//! Two and more refusals at once: the first in number order is answered, but 9 before 1, and 11 and 12 before 8. Every pair that can hold of a
+//! call must have been met alone.
 use crate::block_oracle::{read_holds, written};
 use crate::blocks;
 use crate::calls::{self, Side, Want};
@@ -9,8 +9,11 @@ use crate::families::{A, B};
 use crate::fast::{self, FAST};
 use crate::lent::Entry;
 use crate::loops;
-use crate::right::{Edit, Facts, Holds, LIMIT, edit_holds, flat, mark_holds, part_holds, pattern_holds, tree_holds};
+use crate::right::{
+    Edit, Facts, Holds, LIMIT, WANTED_LIMIT, edit_holds, flat, mark_holds, part_holds, pattern_holds, tree_holds, wanted_holds,
+};
 use crate::tally::{Random, Tally};
+use crate::wanted;
 use std::collections::HashSet;
 use std::fmt::Debug;
 
@@ -105,6 +108,22 @@ fn tree(t: &mut Tally) {
     every_pair(t, "tree", &met, &[6, 7, 8]);
 }
 
+/// Tables of ones, which `a` over and over has, and with one entry of 0, the first or the last.
+fn wanted(t: &mut Tally) {
+    let mut met = Met::new();
+    for n in [1, WANTED_LIMIT, WANTED_LIMIT + 1] {
+        for zero in [None, Some(0), Some(n - 1)] {
+            let mut table = vec![1; n];
+            zero.into_iter().for_each(|place| table[place] = 0);
+            for room in [0, n - 1, n, PLENTY] {
+                met.insert(wanted_holds(n, zero.is_none()).and(8, room < n));
+                wanted::one(t, &table, zero.is_none(), room, fast::reach);
+            }
+        }
+    }
+    every_pair(t, "realise_array", &met, &[11, 12, 8]);
+}
+
 /// A table, and how it may be wrong: an entry changed, the last one missing.
 fn tables(table: &[u16]) -> [Vec<u16>; 3] {
     let mut wrong = table.to_vec();
@@ -164,6 +183,7 @@ pub fn all(t: &mut Tally, r: &mut Random) {
     blocks_read(t, words[1].0);
     marks(t, words[1].0);
     tree(t);
+    wanted(t);
     for side in [Side::Prefix, Side::Suffix] {
         let mut met = Met::new();
         for (w, f) in &words {

@@ -4,6 +4,7 @@ use crate::engine::{Given, Group};
 pub const LIMIT: usize = 16_384;
 pub const BLOCK_LIMIT: usize = 256;
 pub const TREE_LIMIT: usize = 256;
+pub const WANTED_LIMIT: usize = 256;
 
 /// What there is to say of a pattern.
 #[derive(Clone, Debug, PartialEq)]
@@ -57,9 +58,9 @@ impl Holds {
         self.0 == 0
     }
 
-    /// The first that is tested, or 0: 9 before the others, which go in number order.
+    /// The first that is tested, or 0: 9 before 1, and 11 and 12 before 8; the others go in number order.
     pub fn first(self) -> u8 {
-        [9, 1, 2, 3, 4, 5, 6, 7, 8, 10].into_iter().find(|n| self.0 >> n & 1 == 1).unwrap_or(0)
+        [9, 1, 2, 3, 4, 5, 6, 7, 11, 12, 8, 10].into_iter().find(|n| self.0 >> n & 1 == 1).unwrap_or(0)
     }
 }
 
@@ -79,6 +80,11 @@ pub fn mark_holds(n: usize, repeated: bool) -> Holds {
 
 pub fn tree_holds(n: usize, lyndon: bool) -> Holds {
     Holds::default().and(6, n > TREE_LIMIT).and(7, !lyndon)
+}
+
+/// A wanted table of n entries, which a pattern has or none has.
+pub fn wanted_holds(n: usize, had: bool) -> Holds {
+    Holds::default().and(11, n > WANTED_LIMIT).and(12, !had)
 }
 
 /// A question about the prefix or suffix at a position, over a table.

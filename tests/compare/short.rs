@@ -99,8 +99,12 @@ fn copying_itself(r: &mut Random, letters: &[u8], length: usize) -> Vec<u8> {
 }
 
 pub fn random_word(r: &mut Random) -> Vec<u8> {
-    let all: Vec<u8> = (0..=255).collect();
     let length = r.below(71);
+    random_of(r, length)
+}
+
+pub fn random_of(r: &mut Random, length: usize) -> Vec<u8> {
+    let all: Vec<u8> = (0..=255).collect();
     let letters: &[u8] = [&[0x7F, 0x80][..], &[0, 0x7F, 0xFF], &[0x61, 0x62, 0x63, 0x64], &all][r.below(4)];
     match r.below(3) {
         0 => r.letters(letters, length),

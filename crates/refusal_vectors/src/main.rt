@@ -1,5 +1,5 @@
 // Runs the public calls on one pattern where they refuse, and next to it: short rows, the empty pattern, positions, wrong tables, repeated
-// words, several refusals at once, the longest patterns. It prints as `vectors` does, by `show`, and its file `stdout` was computed in the
+// words, several refusals at once, the longest patterns, wanted tables. It prints as `vectors` does, by `show`, and its file `stdout` was computed in the
 // same way. Edits are left to `vectors`.
 mod empty;
 mod limits;
@@ -7,6 +7,7 @@ mod order;
 mod positions;
 mod repeated;
 mod short_rows;
+mod wanted;
 mod wrong_tables;
 
 fn main() {
@@ -17,4 +18,5 @@ fn main() {
     repeated::run();
     order::run();
     limits::run();
+    wanted::run();
 }

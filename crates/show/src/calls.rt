@@ -1,6 +1,8 @@
 // A function for each public call: it prints the call and what is given, makes the call with a row of `room` entries, or a buffer of `room` bytes,
 // and prints the answer with what the call leaves there. A part of the row is `[0..n]`: of `[..n]` the search does not know the length.
+use refusals::Filled;
 use refusals::MAX_PATTERN;
+use refusals::MAX_WANTED;
 ghost use Prim.Native.Nat.{_≤_};
 
 // What each entry of a row holds before a call, and the longest row.
@@ -48,6 +50,26 @@ pub fn last_factors(pattern: &[u8], room: usize) {
     let row = &mut space[0..n];
     let a = lyndon::last_factors(pattern, row);
     crate::filled(a, row);
+}
+
+pub fn realise_array(wanted: &[u16], room: usize) {
+    crate::text(b"realise_array");
+    crate::row(b"wanted", wanted);
+    let mut space = [BLANK; BUFFER];
+    let n = least(room, BUFFER);
+    let buffer = &mut space[0..n];
+    let a = lyndon::realise_array(wanted, buffer);
+    realised(a, buffer);
+}
+
+// The pattern in the buffer is left free, so its Lyndon array is printed for it, and then the bytes behind it.
+fn realised(a: Filled, buffer: &[u8]) {
+    let count = least(a.count, buffer.len());
+    let mut space = [OLD; MAX_WANTED];
+    let n = least(count, MAX_WANTED);
+    let array = &mut space[0..n];
+    lyndon::lyndon_array(&buffer[0..count], array);
+    crate::realised(a, array, &buffer[count..]);
 }
 
 pub fn longest_words(pattern: &[u8], room: usize) {

@@ -150,6 +150,16 @@ pub fn buffer(a: Filled, s: &[u8]) {
     text(b"\n");
 }
 
+// The answer of the call for a wanted table: the Lyndon array of the pattern in the buffer, and the buffer behind it.
+pub fn realised(a: Filled, array: &[u16], behind: &[u8]) {
+    refusal(a.refusal);
+    number(b"count", a.count as u64);
+    row(b"array", array);
+    text(b" behind");
+    content(behind);
+    text(b"\n");
+}
+
 pub fn extent(a: Extent) {
     refusal(a.refusal);
     number(b"place", a.place as u64);

@@ -1,0 +1,98 @@
+//! Wanted reach tables. Which pattern is written is left free, so it is judged by its reach table.
+use crate::engine;
+use crate::families::families;
+use crate::fast;
+use crate::lent::{Lent, lengths};
+use crate::oracle;
+use crate::right::{WANTED_LIMIT, wanted_holds};
+use crate::short::{every_word, random_of};
+use crate::tally::{Random, Tally, brief, show};
+use std::collections::HashSet;
+
+/// A call with one buffer; `had` says whether a pattern has the table, and `reach` tells the table of the one written.
+pub fn one(t: &mut Tally, wanted: &[u16], had: bool, room: usize, reach: fn(&[u8]) -> Vec<u16>) {
+    let n = wanted.len();
+    let table = Lent::holding(wanted);
+    let mut buffer = Lent::<u8>::blank(room);
+    let got = engine::realise_array(table.contents(), buffer.row());
+    let number = wanted_holds(n, had).and(8, room < n).first();
+    let case = || format!("realise_array of {}, buffer of {room}", brief(wanted));
+    t.equal(&got, &(number, [if number == 0 { n } else { 0 }, 0]), case);
+    let pattern = if number == 0 { buffer.contents()[..n].to_vec() } else { vec![] };
+    t.check(reach(&pattern) == wanted || number > 0, || format!("{}: {} has another table", case(), show(&pattern)));
+    t.check(buffer.holds(&pattern), || format!("{}: bytes behind the pattern were changed", case()));
+    t.check(table.unchanged(), || format!("{}: the table was changed", case()));
+}
+
+/// Buffers too short, exact and longer.
+fn buffers(t: &mut Tally, wanted: &[u16], had: bool, reach: fn(&[u8]) -> Vec<u16>) {
+    for room in lengths(wanted.len()) {
+        one(t, wanted, had, room, reach);
+    }
+}
+
+/// Six letters, in the order of unsigned bytes.
+const LETTERS: [u8; 6] = [0, 1, 0x7F, 0x80, 0xC0, 0xFF];
+
+/// Calls `each` with every table of n entries from the given ones.
+fn every_table(entries: &[u16], n: usize, each: &mut impl FnMut(&[u16])) {
+    let mut places = vec![0; n];
+    loop {
+        each(&places.iter().map(|&k| entries[k]).collect::<Vec<u16>>());
+        let Some(last) = places.iter().rposition(|&k| k + 1 < entries.len()) else { return };
+        places[last] += 1;
+        places[last + 1..].fill(0);
+    }
+}
+
+/// Every table with entries from 0 to one that is past the end from every place, and the largest one. Of n bytes no more than n differ, so all patterns
+/// over n letters have all tables there are.
+pub fn short(t: &mut Tally, length: usize) {
+    for n in 0..=length {
+        let words = every_word(&LETTERS[..n], n);
+        let tables: HashSet<Vec<u16>> = words.iter().filter(|w| w.len() == n).map(|w| oracle::reach(w)).collect();
+        let entries: Vec<u16> = (0..=n as u16 + 1).chain([0xFFFF]).collect();
+        every_table(&entries, n, &mut |wanted| {
+            let had = tables.contains(wanted);
+            t.equal(&oracle::nests(wanted), &had, || format!("whether {} nests", brief(wanted)));
+            buffers(t, wanted, had, oracle::reach);
+        });
+    }
+}
+
+/// The table with one entry changed to one next to it, to the edges of what fits, to one that is drawn.
+fn changed(r: &mut Random, table: &[u16]) -> Vec<u16> {
+    let mut wrong = table.to_vec();
+    if !wrong.is_empty() {
+        let place = r.below(table.len());
+        let left = (table.len() - place) as u16;
+        let drawn = 1 + r.below(usize::from(left)) as u16;
+        wrong[place] = [0, table[place] + 1, table[place] - 1, left, left + 1, 1, drawn, 0xFFFF][r.below(8)];
+    }
+    wrong
+}
+
+/// The table of a pattern, and tables next to it.
+fn around(t: &mut Tally, r: &mut Random, w: &[u8]) {
+    t.words += 1;
+    let table = fast::reach(w);
+    buffers(t, &table, true, fast::reach);
+    for _ in 0..4 {
+        let wrong = changed(r, &table);
+        buffers(t, &wrong, oracle::nests(&wrong), fast::reach);
+    }
+}
+
+/// Most patterns are as long as a wanted table may be.
+pub fn random(t: &mut Tally, r: &mut Random, count: usize) {
+    for n in [WANTED_LIMIT - 1, WANTED_LIMIT, WANTED_LIMIT + 1] {
+        for (_, w) in families(n, r) {
+            around(t, r, &w);
+        }
+    }
+    for _ in 0..count {
+        let n = if r.below(4) == 0 { r.below(WANTED_LIMIT + 2) } else { WANTED_LIMIT };
+        let w = random_of(r, n);
+        around(t, r, &w);
+    }
+}
