@@ -2,6 +2,8 @@
  * and each row is lent out of a longer one. Which calls are made is left to the tests. */
 #include "calls.h"
 
+#include <string.h>
+
 #define UNSET ((size_t)0xDEADBEEF)
 
 const char *const filling_name[FILLINGS] = { "lyndon_factor",       "lyndon_array", "lyndon_last_factors",  "lyndon_longest_words",
@@ -72,6 +74,15 @@ bool reads_block(bytes block, told want) {
     told got = { 0xEE, { UNSET, UNSET } };
     got.refusal = lyndon_read_block(l.row, block.n, &got.number[0], &got.number[1]);
     return unchanged(l, block.at) && equal(got, want);
+}
+
+bool realises(table wanted, size_t room, told want, uint8_t *pattern) {
+    lent t = lend_copy(wanted.at, wanted.n * sizeof *wanted.at), row = lend(room);
+    told got = { 0xEE, { UNSET, 0 } };
+    got.refusal = lyndon_realise_array((const uint16_t *)(void *)t.row, wanted.n, row.row, room, &got.number[0]);
+    memcpy(pattern, row.row, want.number[0]);
+    bool kept = unchanged(t, wanted.at);
+    return holds(row, pattern, want.number[0]) && kept && equal(got, want);
 }
 
 bool takes_part(side s, bytes w, table t, size_t position, size_t room, told want, result r) {

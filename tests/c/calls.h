@@ -68,6 +68,9 @@ bool tells_rotation(bytes w, uint8_t refusal, size_t start);
 /* The numbers are the place and the count of the bytes within the block. */
 bool reads_block(bytes block, told want);
 
+/* The pattern that is written goes to `pattern` too, since which one it is is left free; the bytes behind it are looked at here. */
+bool realises(table wanted, size_t room, told want, uint8_t *pattern);
+
 bool takes_part(side s, bytes w, table t, size_t position, size_t room, told want, result r);
 
 /* lyndon_edit with rows of these lengths in entries, and lyndon_edit_numbers. */

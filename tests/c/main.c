@@ -13,5 +13,6 @@ int main(int argc, char **argv) {
     test_words();
     test_edits();
     test_blocks();
+    test_wanted();
     return finish();
 }

@@ -11,5 +11,6 @@ void test_limits(void);
 void test_words(void);
 void test_blocks(void);
 void test_edits(void);
+void test_wanted(void);
 
 #endif

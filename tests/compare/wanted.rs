@@ -50,6 +50,7 @@ fn every_table(entries: &[u16], n: usize, each: &mut impl FnMut(&[u16])) {
 pub fn short(t: &mut Tally, length: usize) {
     for n in 0..=length {
         let words = every_word(&LETTERS[..n], n);
+        t.words += words.len();
         let tables: HashSet<Vec<u16>> = words.iter().filter(|w| w.len() == n).map(|w| oracle::reach(w)).collect();
         let entries: Vec<u16> = (0..=n as u16 + 1).chain([0xFFFF]).collect();
         every_table(&entries, n, &mut |wanted| {

@@ -35,6 +35,10 @@ static void run_last_factors(void) {
     g.refusal = lyndon_last_factors(g.pattern, g.n, g.row, N, &g.count);
 }
 
+static void run_realise_array(void) {
+    g.refusal = lyndon_realise_array(g.array, g.n, g.text, LYNDON_MAX_WANTED, &g.count);
+}
+
 static void run_longest_words(void) {
     g.refusal = lyndon_longest_words(g.pattern, g.n, g.row, N, &g.size, &g.count);
 }
@@ -100,6 +104,7 @@ static const row rows[] = {
     { "lyndon_factor", run_factor, N, 1024, 0 },
     { "lyndon_array", run_array, N, 1024, 0 },
     { "lyndon_last_factors", run_last_factors, N, 1024, 0 },
+    { "lyndon_realise_array", run_realise_array, LYNDON_MAX_WANTED, 1024, 0 },
     { "lyndon_longest_words", run_longest_words, N, 1024, 0 },
     { "lyndon_longest_word", run_longest_word, N, 1024, 0 },
     { "lyndon_is_lyndon", run_is_lyndon, N, 1024, 0 },

@@ -59,15 +59,14 @@ module _ {t ends : List ℕ} (nests : Nests t) where
       pub counted-some : getD ends (endOf t i) 0 ≡ endsAt t (endOf t i) i + 1
       counted-some = before .entry (endOf t i) (nests .within i h) ∙ count-here t i
 
-      pub counted-back : Counted t i (set ends (endOf t i) (getD ends (endOf t i) 0 - 1))
-      counted-back =
+      pub counted-back : (x : ℕ) → x + 1 ≡ getD ends (endOf t i) 0 → Counted t i (set ends (endOf t i) x)
+      counted-back x less =
           let w = nests .within i h in
           record {
-            room = omega (arith, c .room, length-set ends (endOf t i) (getD ends (endOf t i) 0 - 1));
+            room = omega (arith, c .room, length-set ends (endOf t i) x);
             entry =
-                λ k l. set-entry ends (endOf t i) (getD ends (endOf t i) 0 - 1) k (endsAt t k i) (omega (arith, c .room))
-                (λ x. rw x (omega (arith, counted-some)))
-                (λ x. before .entry k l ∙ count-elsewhere t i k x);
+                λ k l. set-entry ends (endOf t i) x k (endsAt t k i) (omega (arith, c .room)) (λ y. rw y (omega (arith, counted-some)))
+                (λ y. before .entry k l ∙ count-elsewhere t i k y);
           }
 
       -- the symbol at i: of a stretch that ends before the end of the table, and of one that ends there

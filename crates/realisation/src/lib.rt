@@ -9,27 +9,27 @@ ghost use Rattle.realisation.specs.Symbols.{symbols};
 ghost use Rattle.refusals.specs.Refusals.{maxWanted};
 ghost use Rattle.rows.specs.Row.{written};
 
-// Whether the stretches nest, from the right: those behind i, which nest, follow one another from i + 1 to the end of the one at i, or one crosses it.
-// Each place is passed over once, so this is linear.
+// Whether the stretches nest, from the right: those behind a start, which nest, follow one another up to the end of its stretch, or one crosses it.
+// None is passed over twice, since the chain from a start leaves out those between it and its end: this is linear.
 pub fn nests(table: &[u16]) -> bool
     requires { ⌜ length (now table) ≤ maxWanted ⌝ }
     ensures { λ r. ⌜ NestsTold (now (table .entry)) r ⌝ }
 {
     let n = table.len();
-    let mut i = n;
-    while 0 < i {
-        i -= 1;
-        let end = i + table[i] as usize;
-        if end == i {
+    let mut start = n;
+    while 0 < start {
+        start -= 1;
+        let end = start + table[start] as usize;
+        if end == start {
             return false;
         }
         if n < end {
             return false;
         }
-        let mut j = i + 1;
-        while j < end {
-            j += table[j] as usize;
-            if end < j {
+        let mut next = start + 1;
+        while next < end {
+            next += table[next] as usize;
+            if end < next {
                 return false;
             }
         }

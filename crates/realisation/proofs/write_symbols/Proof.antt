@@ -188,7 +188,9 @@ loop2-again c =
     let i = l .loop2 .i - 1 in
     let h : i < length (b .args .table .now) = omega arith in
     let e = made-below (b .pre .2) h (omega arith) (l .loop2 .inv .1) (l .loop2 .inv .2) (omega arith) in
-    (omega arith, counted-back (b .pre .2) h (omega arith) (l .loop2 .inv .1), filled-down (l .loop2 .inv .2) (omega arith) i _ e h (omega arith))
+    let some = counted-some (b .pre .2) h (omega arith) (l .loop2 .inv .1) in
+    let counted = counted-back (b .pre .2) h (omega arith) (l .loop2 .inv .1) in
+    (omega arith, counted _ (omega (arith, some)), filled-down (l .loop2 .inv .2) (omega arith) i _ (omega (arith, e)) h (omega arith))
 
 cast-pattern-2 : tie.Need-cast-pattern-2 Inv-loop μ-loop Inv-loop2 μ-loop2
 cast-pattern-2 c =
@@ -211,7 +213,9 @@ loop2-again-2 c =
     let i = l .loop2 .i - 1 in
     let h : i < length (b .args .table .now) = omega arith in
     let e = made-last (b .pre .2) h (omega arith) (l .loop2 .inv .1) (omega arith) in
-    (omega arith, counted-back (b .pre .2) h (omega arith) (l .loop2 .inv .1), filled-down (l .loop2 .inv .2) (omega arith) i _ e h (omega arith))
+    let some = counted-some (b .pre .2) h (omega arith) (l .loop2 .inv .1) in
+    let counted = counted-back (b .pre .2) h (omega arith) (l .loop2 .inv .1) in
+    (omega arith, counted _ (omega (arith, some)), filled-down (l .loop2 .inv .2) (omega arith) i _ (omega (arith, e)) h (omega arith))
 
 same-length : tie.Need-same-length Inv-loop μ-loop Inv-loop2 μ-loop2
 same-length c = c .before .loop2 .inv .2 .size
