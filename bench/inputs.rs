@@ -1,5 +1,5 @@
-//! The inputs of the benchmark: the ten families of tests/compare/families.rs at two lengths, the same with both tables, for the edits, and
-//! beginnings of one of them with their blocks. What is timed on them is main.rs's concern.
+//! The inputs of the benchmark: the ten families of tests/compare/families.rs at two lengths, the same with both tables, for the edits, the reach
+//! tables of short ones, and beginnings of one of them with their blocks. What is timed on them is main.rs's concern.
 use crate::engine::Given;
 use crate::families::{A, B, families};
 use crate::plain;
@@ -61,6 +61,15 @@ impl Stored {
 
 pub fn stored(families: Vec<Family<Vec<u8>>>) -> Vec<Family<Stored>> {
     families.into_iter().map(|(name, words)| (name, words.into_iter().map(Stored::new).collect())).collect()
+}
+
+/// The longest wanted table.
+const WANTED: usize = 256;
+
+/// The reach tables of the families.
+pub fn wanted() -> Vec<Family<Vec<u16>>> {
+    let tables = |words: Vec<Vec<u8>>| words.into_iter().map(|w| Stored::new(w).array).collect();
+    words(WANTED).into_iter().map(|(name, words)| (name, tables(words))).collect()
 }
 
 /// A pattern and its definite length block.

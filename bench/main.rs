@@ -1,5 +1,5 @@
-//! Times the engine's calls against the same algorithms in safe Rust, on 4,096 and 16,384 bytes of ten families: `main time` prints a line for each
-//! size, family and contest, and `main table` the tables of all the lines that it reads, from several links of this program. `main once CONTEST`
+//! Times the engine's calls against the same algorithms in safe Rust, on 4,096 and 16,384 bytes of ten families, and on reach tables of 256 entries:
+//! `main time` prints a line for each size, family and contest, and `main table` the tables of all the lines that it reads, from several links of this program. `main once CONTEST`
 //! runs one call of each side on the longest Fibonacci word, for a tool that counts instructions.
 #[allow(dead_code)]
 #[path = "../tests/compare/engine.rs"]
@@ -11,6 +11,7 @@ mod plain;
 mod plain_block;
 mod plain_edit;
 mod plain_text;
+mod plain_wanted;
 mod race;
 mod table;
 #[allow(dead_code)]
@@ -24,6 +25,7 @@ use std::fmt::Debug;
 
 type OfWord = Contest<Vec<u8>, usize>;
 type OfEdit = Contest<Stored, EditAnswer>;
+type OfTable = Contest<Vec<u16>, usize>;
 type OfBlock = Contest<Framed, [usize; 2]>;
 
 const NO_TARGET: f64 = f64::INFINITY;
@@ -94,6 +96,11 @@ const EDITS: [OfEdit; 6] = [
     ),
 ];
 
+const REALISE: Call<Vec<u16>, usize> = |t, rows| told(engine::realise_array(t, &mut rows.text));
+
+const TABLES: [OfTable; 1] =
+    [contest("realise_array", REALISE, |t, rows| plain_wanted::realise(t, &mut rows.text).expect("a table that nests"), 1.5)];
+
 const WRITE: Call<Framed, [usize; 2]> = |f, rows| numbers(engine::write_block(&f.pattern, &mut rows.text));
 const READ: Call<Framed, [usize; 2]> = |f, _| numbers(engine::read_block(&f.block));
 
@@ -122,8 +129,9 @@ fn names<I>(families: &[Family<I>]) -> Vec<&'static str> {
     families.iter().map(|f| f.0).collect()
 }
 
-/// Of a table whose families are lengths.
+/// Of a table whose families are lengths, and of the one about wanted tables.
 const LENGTHS: &str = "blocks";
+const ENTRIES: &str = "256 entries";
 
 fn main() {
     let arguments: Vec<_> = std::env::args().skip(1).collect();
@@ -134,6 +142,7 @@ fn main() {
                 race::race(name, &WORDS, &words);
                 race::race(name, &EDITS, &inputs::stored(words));
             }
+            race::race(ENTRIES, &TABLES, &inputs::wanted());
             race::race(LENGTHS, &BLOCKS, &inputs::framed());
         }
         ["table"] => {
@@ -143,6 +152,7 @@ fn main() {
                 table(name, &WORDS, &families, &least);
                 table(name, &EDITS, &families, &least);
             }
+            table(ENTRIES, &TABLES, &families, &least);
             table(LENGTHS, &BLOCKS, &names(&inputs::framed()), &least);
             growth(&WORDS, &families, &least);
             growth(&EDITS, &families, &least);
@@ -150,6 +160,7 @@ fn main() {
         ["once", name] => {
             let words = inputs::words(SIZE);
             let found = once(&WORDS, name, first(&words, "Fibonacci"))
+                || once(&TABLES, name, first(&inputs::wanted(), "Fibonacci"))
                 || once(&BLOCKS, name, first(&inputs::framed(), SIZES[1].0))
                 || once(&EDITS, name, first(&inputs::stored(words), "Fibonacci"));
             assert!(found, "no contest {name}");
