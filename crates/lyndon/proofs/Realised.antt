@@ -1,45 +1,40 @@
 -- What `realise_array` makes of the facts that its ways out show.
-use mathlib.Core.Bool.{Bool, true, false, true≢false}
-use mathlib.Core.List.{List, [], _∷_}
-use mathlib.Core.Path.{_≡_, refl, sym, _∙_}
+use mathlib.Core.Bool.{true, false, true≢false}
+use mathlib.Core.List.{List, []}
+use mathlib.Core.Path.{_≡_, refl, sym}
 use Prim.Native.Nat.{ℕ, _≤_, _<_}
 use native.Mathlib.Omega.{arith}
 use lib.ListN.{length}
-use borrow.Author.Tests.{lt-ltb, le-ltb}
 use Rattle.realisation.proofs.Nested.{array-nests}
 use Rattle.realisation.proofs.Symbols.{symbols-array}
 use Rattle.realisation.proofs.Theorems.{symbols-bytes}
-use Rattle.realisation.specs.Nested.{Nests, NestsTold}
+use Rattle.realisation.specs.Nested.{Nests}
 use Rattle.realisation.specs.Symbols.{symbols}
-use Rattle.refusals.proofs.First.{First, none, holds, passes, too-short, not-short}
+use Rattle.refusals.proofs.First.{none, holds, passes, too-short, not-short, wanted-long, not-wanted-long}
 use Rattle.refusals.proofs.Outcome.{Refused, fills-refused, fills-accepted}
-use Rattle.refusals.specs.Refusals.{Refusal, maxWanted, wantedTooLong, noPattern, tooShort}
+use Rattle.refusals.specs.Refusals.{maxWanted}
 use Rattle.refusals.specs.declared.Filled.{Filled}
 use Rattle.rows.specs.Row.{written}
 use Rattle.lyndon.specs.Calls.{HasArray, ArrayRealised}
 
 module _ (t row : List ℕ) (r : Filled) where
-  pub wanted-long : maxWanted < length t → Refused r 11 → ArrayRealised t row row r
-  wanted-long h q =
+  pub wanted-refused : maxWanted < length t → Refused r 11 → ArrayRealised t row row r
+  wanted-refused h q =
       record {
         pattern = [];
         none = false;
-        fills = fills-refused (holds (lt-ltb maxWanted (length t) h)) q;
+        fills = fills-refused (wanted-long t h) q;
         lacks = λ e. absurd (true≢false (sym e));
         has = λ e l. absurd (omega arith);
       }
 
   module _ (small : length t ≤ maxWanted) where
-    -- the first test passed
-    not-wanted-long : {rs : List Refusal} {k : ℕ} → First rs k → First (wantedTooLong t ∷ rs) k
-    not-wanted-long f = passes (le-ltb maxWanted (length t) small) f
-
     pub wanted-none : (Nests t → ⊥) → Refused r 12 → ArrayRealised t row row r
     wanted-none crosses q =
         record {
           pattern = [];
           none = true;
-          fills = fills-refused (not-wanted-long (holds refl)) q;
+          fills = fills-refused (not-wanted-long t small (holds refl)) q;
           lacks = λ e s h. crosses (rw (h .array) at (array-nests s));
           has = λ e. absurd (true≢false e);
         }
@@ -53,7 +48,7 @@ module _ (t row : List ℕ) (r : Filled) where
           record {
             pattern = symbols t;
             none = false;
-            fills = fills-refused (not-wanted-long (passes refl (too-short (length t) (length row) l))) q;
+            fills = fills-refused (not-wanted-long t small (passes refl (too-short (length t) (length row) l))) q;
             lacks = λ e. absurd (true≢false (sym e));
             has = λ e k. realised;
           }
@@ -63,7 +58,7 @@ module _ (t row : List ℕ) (r : Filled) where
           record {
             pattern = symbols t;
             none = false;
-            fills = fills-accepted (not-wanted-long (passes refl (not-short (length t) (length row) l none))) p q w;
+            fills = fills-accepted (not-wanted-long t small (passes refl (not-short (length t) (length row) l none))) p q w;
             lacks = λ e. absurd (true≢false (sym e));
             has = λ e k. realised;
           }

@@ -24,15 +24,15 @@ ArrayMade s row row′ r = Fills (patternTooLong s ∷ tooShort (length (lyndonA
 abbrev pub LastFactorsMade : List ℕ → List ℕ → List ℕ → Filled → Type 0
 LastFactorsMade s row row′ r = Fills (patternTooLong s ∷ tooShort (length (lastFactors s)) (length row) ∷ []) (lastFactors s) (length s) row row′ r
 
--- realise_array: a byte pattern whose reach table is the wanted one, so it is as long
+-- realise_array. A byte pattern with the wanted reach table; it has as many bytes as the table has entries.
 pub record HasArray (wanted s : List ℕ) : Type 0 where
   pub bytes : (i : ℕ) → i < length s → getD s i 0 < 256
   pub array : lyndonArray s ≡ wanted
 
--- The pattern written is some such pattern. 12 is the answer where `none` holds: no byte pattern has the table, and exactly then, since otherwise this one has it.
+-- Which pattern is written is left free but for that. `none` says that there is no such pattern at all: exactly then 12 holds.
 pub record ArrayRealised (wanted row row′ : List ℕ) (r : Filled) : Type 0 where
   pub pattern : List ℕ
   pub none : Bool
   pub fills : Fills (wantedTooLong wanted ∷ noPattern none ∷ tooShort (length wanted) (length row) ∷ []) pattern (length wanted) row row′ r
-  pub lacks : none ≡ true → (s : List ℕ) → HasArray wanted s → ⊥
   pub has : none ≡ false → length wanted ≤ maxWanted → HasArray wanted pattern
+  pub lacks : none ≡ true → (s : List ℕ) → HasArray wanted s → ⊥

@@ -3,7 +3,7 @@ use mathlib.Core.List.{List, [], _∷_, _++_}
 use mathlib.Core.Path.{_≡_, sym, ap, _∙_}
 use Prim.Native.Nat.{ℕ, _+_, _-_, _≤_, _<_}
 use native.Mathlib.Omega.{arith}
-use lib.ListN.{length, take, drop, length-append, length-take, length-drop, take-append-drop}
+use lib.ListN.{length, take, drop, length-append, take-append-drop}
 use lib.Seq.{drop-drop}
 use Rattle.words.proofs.Below.{word-length}
 use Rattle.words.proofs.Factors.{Within, within, factors-falling, join-factors}
@@ -46,7 +46,8 @@ module _ (s : List ℕ) (i j : ℕ) (h : i < length s) (l : i < j) (r : j < i + 
       go [] e q =
           let f : first ≡ found .factor = cc in
           let m = ap length (f ∙ found .inside) in
-          omega (arith, m, size, ahead, ap length q, word-length s j (longestAt s j) (longest-at-fits s j placed), length-append (found .left) (word ++ found .right), length-append word (found .right))
+          let l = word-length s j (longestAt s j) (longest-at-fits s j placed) in
+          omega (arith, m, size, ahead, ap length q, l, length-append (found .left) (word ++ found .right), length-append word (found .right))
       go (g ∷ fs) e q =
           let f : first ≡ g = cc in
           absurd (omega (arith, ap length f, size, ahead, ap length q, length-append (g ++ join fs) (found .left), length-append g (join fs)))

@@ -10,7 +10,7 @@ use lib.Dec.{ltb, leb, eqb}
 use lib.ListN.{length, take, drop, getD}
 use lib.Seq.{drop-cons, ext-getD}
 use borrow.Author.Tests.{ltb-true, lt-ltb, le-ltb, leb-true, le-leb, lt-leb, eqb-true, eq-eqb}
-use Rattle.words.proofs.Below.{Below, below-lyndon}
+use Rattle.words.proofs.Below.{below-lyndon}
 use Rattle.words.proofs.Bounded.{le-cases, length-table, getD-table}
 use Rattle.words.proofs.Order.{less-irrefl, less-trans}
 use Rattle.words.proofs.Tables.{longest-at-some, longest-at-stop, longest-at-stop-end, lyndon-array-entry, lyndon-array-length}
@@ -18,7 +18,7 @@ use Rattle.words.specs.Order.{Less, Lyndon}
 use Rattle.words.specs.Tables.{longestAt, lyndonArray}
 use Rattle.realisation.specs.Nested.{Nests, endOf}
 use Rattle.realisation.specs.Symbols.{count, endsAt, symbolTo, symbolAt, symbols}
-use Rattle.realisation.proofs.Count.{count-le, count-grows, count-more, count-both}
+use Rattle.realisation.proofs.Count.{count-le, count-more, count-both}
 
 pub symbols-length : (t : List ℕ) → length (symbols t) ≡ length t
 unfolding symbols
@@ -74,9 +74,12 @@ module _ {t : List ℕ} (nests : Nests t) where
 
   pub symbol-rises : (d i k : ℕ) → length t ≤ k + d → i < k → k < length t → k < endOf t i → symbolAt t i < symbolAt t k
   symbol-rises zero i k p l h r = absurd (omega arith)
-  symbol-rises (suc d) i k p l h r = go (le-cases (nests .inside i k (omega arith) l r)) (λ q s. symbol-rises d i (endOf t k) (omega (arith, nests .some k h)) (omega (arith, nests .some k h)) q s)
+  symbol-rises (suc d) i k p l h r =
+      let on = nests .some k h in
+      go (le-cases (nests .inside i k (omega arith) l r)) (λ q s. symbol-rises d i (endOf t k) (omega arith) (omega arith) q s)
     where
-      go : (endOf t k ≡ endOf t i) ⊎ (endOf t k < endOf t i) → (endOf t k < length t → endOf t k < endOf t i → symbolAt t i < symbolAt t (endOf t k)) → symbolAt t i < symbolAt t k
+      go : (endOf t k ≡ endOf t i) ⊎ (endOf t k < endOf t i)
+          → (endOf t k < length t → endOf t k < endOf t i → symbolAt t i < symbolAt t (endOf t k)) → symbolAt t i < symbolAt t k
       go (inl e) ih = sibling i k l h e
       go (inr q) ih =
           let f : endOf t k < length t = omega (arith, nests .within i (omega arith)) in
@@ -143,7 +146,9 @@ module _ (s : List ℕ) where
             (λ up. less-irrefl (take l (drop i s)) (less-trans (take l (drop i s)) (take next (drop (i + l) s)) (take l (drop i s)) up less))
 
 pub symbols-array : {t : List ℕ} → Nests t → lyndonArray (symbols t) ≡ t
-symbols-array {t} nests = ext-getD 0 (lyndonArray s) t (lyndon-array-length s ∙ symbols-length t) (λ i h. entry i (omega (arith, lyndon-array-length s, symbols-length t)))
+symbols-array {t} nests =
+    ext-getD 0 (lyndonArray s) t (lyndon-array-length s ∙ symbols-length t)
+    (λ i h. entry i (omega (arith, lyndon-array-length s, symbols-length t)))
   where
     s : List ℕ
     s = symbols t

@@ -1,5 +1,5 @@
 -- How `nests` tests a table from the right: the stretches from i on nest, and those behind i are passed over one after the other.
-use mathlib.Core.Bool.{Bool, true, false, true≢false}
+use mathlib.Core.Bool.{true, false, true≢false}
 use mathlib.Core.List.{List}
 use mathlib.Core.Path.{_≡_, sym}
 use Prim.Native.Nat.{ℕ, _+_, _≤_, _<_}

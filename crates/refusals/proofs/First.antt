@@ -6,7 +6,7 @@ use Prim.Native.Nat.{ℕ, zero, suc, _≤_, _<_}
 use native.Mathlib.Omega.{arith}
 use lib.ListN.{length, take}
 use borrow.Author.Tests.{lt-ltb, le-ltb}
-use Rattle.refusals.specs.Refusals.{Refusal, firstOf, maxPattern, patternTooLong, pastEnd, notTable, tooShort}
+use Rattle.refusals.specs.Refusals.{Refusal, firstOf, maxPattern, maxWanted, patternTooLong, pastEnd, notTable, tooShort, wantedTooLong}
 use Rattle.words.specs.Order.{same}
 
 pub data First : List Refusal → ℕ → Type 0 where
@@ -43,6 +43,12 @@ too-short needs room h = holds (lt-ltb room needs h)
 
 pub not-short : (needs room : ℕ) {rs : List Refusal} {k : ℕ} → needs ≤ room → First rs k → First (tooShort needs room ∷ rs) k
 not-short needs room h f = passes (le-ltb room needs h) f
+
+pub wanted-long : (t : List ℕ) {rs : List Refusal} → maxWanted < length t → First (wantedTooLong t ∷ rs) 11
+wanted-long t h = holds (lt-ltb maxWanted (length t) h)
+
+pub not-wanted-long : (t : List ℕ) {rs : List Refusal} {k : ℕ} → length t ≤ maxWanted → First rs k → First (wantedTooLong t ∷ rs) k
+not-wanted-long t h f = passes (le-ltb maxWanted (length t) h) f
 
 -- refusal 5, of a table with n entries
 module _ (table row : List ℕ) (n : ℕ) (size : length table ≡ n) where

@@ -79,7 +79,7 @@ patternRepeated s = record { number = 10; holds = repeated s }
 abbrev pub wantedTooLong : List ℕ → Refusal
 wantedTooLong wanted = record { number = 11; holds = ltb maxWanted (length wanted) }
 
--- No byte pattern has the wanted table: the call says what this means.
+-- No byte pattern has the wanted table. Whether one has it no test here tries: the call's contract says it.
 abbrev pub noPattern : Bool → Refusal
 noPattern none = record { number = 12; holds = none }
 

@@ -1,7 +1,7 @@
 -- `realisation::nests` meets its contract: the stretches from `start` on nest; those behind it that start before `next` end there or before.
 use mathlib.Core.Path.{_≡_}
-use Prim.Native.Nat.{_+_, _-_, _≤_, _<_}
-use lib.ListN.{length, getD}
+use Prim.Native.Nat.{_-_, _≤_, _<_}
+use lib.ListN.{length}
 use Rattle.realisation.proofs.Tested.{NestsFrom, Passed, from-none, from-all, from-turn, passed-none, passed-turn, told-none, told-past, told-crossing}
 use Rattle.realisation.specs.Nested.{endOf}
 use borrow.Author.Needs.{needs}

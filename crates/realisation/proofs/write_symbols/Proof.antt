@@ -1,10 +1,11 @@
 -- `realisation::write_symbols` meets its contract: the ends of the first k stretches are counted; the symbols from i on are made.
 use mathlib.Core.Path.{_≡_}
-use Prim.Native.Nat.{_+_, _-_, _≤_, _<_}
-use lib.ListN.{length, getD}
+use Prim.Native.Nat.{_-_, _≤_, _<_}
+use lib.ListN.{length}
 use Rattle.rows.proofs.Fill.{Filled, filled-none, filled-down, filled-all}
 use Rattle.realisation.specs.Symbols.{symbolAt}
-use Rattle.realisation.proofs.Made.{Counted, counted-none, counted-few, counted-turn, counted-some, counted-back, made-below, below-fits, made-last, last-fits, symbols-list}
+use Rattle.realisation.proofs.Made.{Counted, counted-none, counted-few, counted-turn, counted-some, counted-back}
+use Rattle.realisation.proofs.Made.{made-below, below-fits, made-last, last-fits, symbols-list}
 use borrow.Author.Needs.{needs}
 use native.Mathlib.Omega.{arith}
 use Rattle.realisation.proofs.write_symbols.Statement.{statement}
@@ -19,7 +20,8 @@ abbrev μ-loop : tie.MeasureT-loop
 μ-loop table pattern n ends₀ k₀ ends k = length table - k
 
 abbrev Inv-loop2 : tie.InvT-loop2
-Inv-loop2 table pattern₀ n ends₀ k i₀ pattern ends i = (i ≤ length table) × Counted table i ends × Filled (symbolAt table) (length table) pattern₀ pattern i (length table)
+Inv-loop2 table pattern₀ n ends₀ k i₀ pattern ends i =
+    (i ≤ length table) × Counted table i ends × Filled (symbolAt table) (length table) pattern₀ pattern i (length table)
 
 abbrev μ-loop2 : tie.MeasureT-loop2
 μ-loop2 table pattern₀ n ends₀ k i₀ pattern ends i = i
