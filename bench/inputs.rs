@@ -3,6 +3,7 @@
 use crate::engine::Given;
 use crate::families::{A, B, families};
 use crate::plain;
+use crate::plain_wanted;
 use crate::tally::Random;
 
 /// The longest pattern, and the longest of before, with their names.
@@ -63,13 +64,10 @@ pub fn stored(families: Vec<Family<Vec<u8>>>) -> Vec<Family<Stored>> {
     families.into_iter().map(|(name, words)| (name, words.into_iter().map(Stored::new).collect())).collect()
 }
 
-/// The longest wanted table.
-const WANTED: usize = 256;
-
 /// The reach tables of the families.
 pub fn wanted() -> Vec<Family<Vec<u16>>> {
     let tables = |words: Vec<Vec<u8>>| words.into_iter().map(|w| Stored::new(w).array).collect();
-    words(WANTED).into_iter().map(|(name, words)| (name, tables(words))).collect()
+    words(plain_wanted::LIMIT).into_iter().map(|(name, words)| (name, tables(words))).collect()
 }
 
 /// A pattern and its definite length block.

@@ -2,7 +2,8 @@
 //! It refuses what the engine does, without a number. It is not inlined into its caller, as the engine's is not.
 #![forbid(unsafe_code)]
 
-const LIMIT: usize = 256;
+/// The longest wanted table.
+pub const LIMIT: usize = 256;
 
 /// Whether each stretch holds its start, lies within the table, and one that starts inside another ends inside it; from the right.
 fn nests(table: &[u16]) -> bool {

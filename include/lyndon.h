@@ -24,8 +24,8 @@
 extern "C" {
 #endif
 
-/* The longest pattern, stored or edited, the longest block of an edit and the longest word of a tree, in bytes; the longest wanted table, in
- * entries. */
+/* The longest pattern, stored or edited, the longest block of an edit and the longest word of a tree, in bytes; the longest wanted Lyndon
+ * array, in entries. */
 #define LYNDON_MAX_PATTERN 16384
 #define LYNDON_MAX_BLOCK 256
 #define LYNDON_MAX_TREE 256
@@ -49,8 +49,8 @@ extern "C" {
 #define LYNDON_ROW_TOO_SHORT 8      /* the result has more entries than the row */
 #define LYNDON_NOT_A_BLOCK 9        /* the bytes are no definite length block */
 #define LYNDON_REPEATED 10          /* the pattern is a shorter string repeated two or more times */
-#define LYNDON_WANTED_TOO_LONG 11   /* the wanted table has over LYNDON_MAX_WANTED entries */
-#define LYNDON_NO_PATTERN 12        /* no pattern of bytes has the wanted table */
+#define LYNDON_WANTED_TOO_LONG 11   /* the wanted Lyndon array has over LYNDON_MAX_WANTED entries */
+#define LYNDON_NO_PATTERN 12        /* no pattern of bytes has the wanted Lyndon array */
 
 /* The groups of equal neighbouring factors: start, length of one factor, power. Sets *count to the number of groups.
  * Row: 3 entries a group; 3 * pattern_len are always enough. Refusals 1, 8. */
@@ -64,8 +64,9 @@ uint8_t lyndon_array(const uint8_t *pattern, size_t pattern_len, uint16_t *table
  * Row: pattern_len entries. Refusals 1, 8. */
 uint8_t lyndon_last_factors(const uint8_t *pattern, size_t pattern_len, uint16_t *table, size_t table_len, size_t *count);
 
-/* A pattern whose Lyndon array is the wanted one; which of them, where there are several, is left free. Sets *count to wanted_len.
- * Row: wanted_len bytes; no entries give the empty pattern. Refusals 11, 12, 8: an entry of 0 is a case of 12, and so is one past the end. */
+/* Writes a pattern whose Lyndon array is the wanted one to `pattern`, the row; which of them, where there are several, is left free. Sets
+ * *count to wanted_len. Row: wanted_len bytes; no entries give the empty pattern. Refusals 11, 12, 8: an entry of 0, or one that reaches past
+ * the end of the array, is a case of 12. */
 uint8_t lyndon_realise_array(const uint16_t *wanted, size_t wanted_len, uint8_t *pattern, size_t pattern_len, size_t *count);
 
 /* The starts of all longest Lyndon words in the pattern. Sets *size to their length and *count to the number of starts.

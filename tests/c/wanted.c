@@ -1,4 +1,4 @@
-/* Wanted tables: those of all short strings, the longest, and each refusal, alone and with later ones. Which pattern is written is left free,
+/* Wanted tables: those of all short strings of two letters, the longest, and each refusal, alone and with later ones. Which pattern is written is left free,
  * so it is judged by its table, from naive.c for a short one. All tables against all patterns are left to tests/compare. */
 #include "naive.h"
 #include "tests.h"
@@ -9,7 +9,7 @@
 #define N LYNDON_MAX_WANTED
 
 /* A table that a string has, with exact, longer and short buffers. */
-static bool had(table wanted) {
+static bool realised(table wanted) {
     uint8_t pattern[SHORT];
     told done = { 0, { wanted.n, 0 } };
     const size_t rooms[] = { wanted.n, wanted.n + 1, wanted.n + 100 };
@@ -28,7 +28,7 @@ static void short_strings(void) {
             uint8_t at[LONGEST];
             for (size_t k = 0; k < n; k++) at[k] = number >> (n - 1 - k) & 1 ? 0x80 : 0x7F;
             facts f = naive_facts((bytes){ at, n });
-            check(had((table){ f.array, n }), "the table of string %zu of length %zu", number, n);
+            check(realised((table){ f.array, n }), "the table of string %zu of length %zu", number, n);
         }
     }
 }

@@ -62,8 +62,13 @@ fn main() -> ExitCode {
     });
     run.part("tables with one entry changed or missing, two letters to length 6", |t| tables::wrong(t, TWO, 6));
     run.part("tables with one entry changed or missing, three letters to length 4", |t| tables::wrong(t, THREE, 4));
-    run.part("every wanted table to length 6, held to the tables of all patterns", |t| wanted::short(t, 6));
+    run.part("every wanted table to length 6, entries to one past the end and 65535, held to the tables of all patterns", |t| {
+        wanted::short(t, 6)
+    });
     run.part("wanted tables of random patterns of up to 257 bytes, as they are and with an entry changed", |t| wanted::random(t, r, 4_000));
+    run.part("wanted tables of up to 257 entries drawn so that they nest, as they are and with an entry changed", |t| {
+        wanted::drawn(t, r, 2_000)
+    });
     run.part("the edge of each refusal", |t| edges::all(t, r));
     run.part("two and more refusals at once", |t| orders::all(t, r));
     run.part("definite length blocks: every string over seven letters to length 5, to 6 behind a hash mark", blocks::short);

@@ -45,13 +45,13 @@ fn every_table(entries: &[u16], n: usize, each: &mut impl FnMut(&[u16])) {
     }
 }
 
-/// Every table with entries from 0 to one that is past the end from every place, and the largest one. Of n bytes no more than n differ, so all patterns
+/// Every table with entries from 0 to one that goes past the end from every place, and the largest. Of n bytes no more than n differ, so all patterns
 /// over n letters have all tables there are.
 pub fn short(t: &mut Tally, length: usize) {
     for n in 0..=length {
-        let words = every_word(&LETTERS[..n], n);
+        let words: Vec<_> = every_word(&LETTERS[..n], n).into_iter().filter(|w| w.len() == n).collect();
+        let tables: HashSet<Vec<u16>> = words.iter().map(|w| oracle::reach(w)).collect();
         t.words += words.len();
-        let tables: HashSet<Vec<u16>> = words.iter().filter(|w| w.len() == n).map(|w| oracle::reach(w)).collect();
         let entries: Vec<u16> = (0..=n as u16 + 1).chain([0xFFFF]).collect();
         every_table(&entries, n, &mut |wanted| {
             let had = tables.contains(wanted);
@@ -73,27 +73,59 @@ fn changed(r: &mut Random, table: &[u16]) -> Vec<u16> {
     wrong
 }
 
-/// The table of a pattern, and tables next to it.
-fn around(t: &mut Tally, r: &mut Random, w: &[u8]) {
-    t.words += 1;
-    let table = fast::reach(w);
-    buffers(t, &table, true, fast::reach);
-    for _ in 0..4 {
-        let wrong = changed(r, &table);
+/// A table that a pattern has, and tables next to it.
+fn around(t: &mut Tally, r: &mut Random, origin: String, table: &[u16]) {
+    t.origin = format!("{origin}: ");
+    buffers(t, table, true, fast::reach);
+    for k in 0..4 {
+        t.origin = format!("{origin}, change {k}: ");
+        let wrong = changed(r, table);
         buffers(t, &wrong, oracle::nests(&wrong), fast::reach);
     }
 }
 
-/// Most patterns are as long as a wanted table may be.
+/// Most are as long as a wanted table may be.
+fn length(r: &mut Random) -> usize {
+    if r.below(4) == 0 { r.below(WANTED_LIMIT + 2) } else { WANTED_LIMIT }
+}
+
+/// Tables of patterns.
 pub fn random(t: &mut Tally, r: &mut Random, count: usize) {
     for n in [WANTED_LIMIT - 1, WANTED_LIMIT, WANTED_LIMIT + 1] {
-        for (_, w) in families(n, r) {
-            around(t, r, &w);
+        for (family, w) in families(n, r) {
+            t.words += 1;
+            around(t, r, format!("{family}, {n} bytes"), &fast::reach(&w));
         }
     }
     for _ in 0..count {
-        let n = if r.below(4) == 0 { r.below(WANTED_LIMIT + 2) } else { WANTED_LIMIT };
+        let n = length(r);
         let w = random_of(r, n);
-        around(t, r, &w);
+        t.words += 1;
+        around(t, r, format!("the table of {}", show(&w)), &fast::reach(&w));
+    }
+}
+
+/// A table whose stretches nest, drawn from the right: each ends where one of those behind it starts that follow one another from there on, or at the
+/// end; the nearer ones are the likelier, by so much.
+fn nested(r: &mut Random, n: usize, likelier: usize) -> Vec<u16> {
+    let mut table = vec![0; n];
+    for start in (0..n).rev() {
+        let mut end = start + 1;
+        while end < n && r.below(likelier) > 0 {
+            end += usize::from(table[end]);
+        }
+        table[start] = (end - start) as u16;
+    }
+    table
+}
+
+/// Tables drawn as such: their patterns need more letters than those of random patterns do.
+pub fn drawn(t: &mut Tally, r: &mut Random, count: usize) {
+    for k in 0..count {
+        let n = length(r);
+        let likelier = [2, 3, 8, 64, 1024][k % 5];
+        let table = nested(r, n, likelier);
+        t.check(oracle::nests(&table), || format!("drawn table {k} does not nest"));
+        around(t, r, format!("drawn table {k}"), &table);
     }
 }

@@ -22,7 +22,7 @@ module _ (t row : List ℕ) (r : Filled) where
   wanted-refused h q =
       record {
         pattern = [];
-        none = false;
+        unrealisable = false;
         fills = fills-refused (wanted-long t h) q;
         lacks = λ e. absurd (true≢false (sym e));
         has = λ e l. absurd (omega arith);
@@ -33,7 +33,7 @@ module _ (t row : List ℕ) (r : Filled) where
     wanted-none crosses q =
         record {
           pattern = [];
-          none = true;
+          unrealisable = true;
           fills = fills-refused (not-wanted-long t small (holds refl)) q;
           lacks = λ e s h. crosses (rw (h .array) at (array-nests s));
           has = λ e. absurd (true≢false e);
@@ -47,7 +47,7 @@ module _ (t row : List ℕ) (r : Filled) where
       wanted-short l q =
           record {
             pattern = symbols t;
-            none = false;
+            unrealisable = false;
             fills = fills-refused (not-wanted-long t small (passes refl (too-short (length t) (length row) l))) q;
             lacks = λ e. absurd (true≢false (sym e));
             has = λ e k. realised;
@@ -57,7 +57,7 @@ module _ (t row : List ℕ) (r : Filled) where
       wanted-written l p q w =
           record {
             pattern = symbols t;
-            none = false;
+            unrealisable = false;
             fills = fills-accepted (not-wanted-long t small (passes refl (not-short (length t) (length row) l none))) p q w;
             lacks = λ e. absurd (true≢false (sym e));
             has = λ e k. realised;

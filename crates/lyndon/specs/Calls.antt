@@ -1,4 +1,4 @@
--- What the calls for factors and tables answer and leave in the lent row, for every input: the refusals in their order, then the result.
+-- What the calls for factors, tables and a wanted table answer and leave in the lent row, for every input: the refusals in their order, then the result.
 use mathlib.Core.Bool.{Bool, true, false}
 use mathlib.Core.List.{List, [], _∷_}
 use mathlib.Core.Path.{_≡_}
@@ -29,10 +29,11 @@ pub record HasArray (wanted s : List ℕ) : Type 0 where
   pub bytes : (i : ℕ) → i < length s → getD s i 0 < 256
   pub array : lyndonArray s ≡ wanted
 
--- Which pattern is written is left free but for that. `none` says that there is no such pattern at all: exactly then 12 holds.
+-- Which pattern is written is left free but for that. Of a table of up to 256 entries either `unrealisable` says that there is no such pattern at all,
+-- or `pattern` is one; of a longer table neither says anything, since 11 comes first.
 pub record ArrayRealised (wanted row row′ : List ℕ) (r : Filled) : Type 0 where
   pub pattern : List ℕ
-  pub none : Bool
-  pub fills : Fills (wantedTooLong wanted ∷ noPattern none ∷ tooShort (length wanted) (length row) ∷ []) pattern (length wanted) row row′ r
-  pub has : none ≡ false → length wanted ≤ maxWanted → HasArray wanted pattern
-  pub lacks : none ≡ true → (s : List ℕ) → HasArray wanted s → ⊥
+  pub unrealisable : Bool
+  pub fills : Fills (wantedTooLong wanted ∷ noPattern unrealisable ∷ tooShort (length wanted) (length row) ∷ []) pattern (length wanted) row row′ r
+  pub has : unrealisable ≡ false → length wanted ≤ maxWanted → HasArray wanted pattern
+  pub lacks : unrealisable ≡ true → (s : List ℕ) → HasArray wanted s → ⊥

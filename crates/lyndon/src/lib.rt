@@ -1,6 +1,6 @@
 // The public library on one pattern: its factors, both tables, and back from a wanted reach table to a pattern that has it. What asks for words
 // is `lyndon_words`, for factors of a part `lyndon_parts`.
-// Each call tests its refusals in the documents' order and then calls the crate that does the work; none of them requires anything.
+// Each call tests its refusals in the order that its comment names and then calls the crate that does the work; none of them requires anything.
 use factoring::count_groups;
 use factoring::write_groups;
 use prefix_table::make_last_factors;
@@ -69,7 +69,8 @@ pub fn realise_array(wanted: &[u16], pattern: &mut [u8]) -> Filled
     if MAX_WANTED < wanted.len() {
         return refused(11);
     }
-    if !nests(wanted) {
+    let nested = nests(wanted);
+    if !nested {
         return refused(12);
     }
     if pattern.len() < wanted.len() {

@@ -38,7 +38,7 @@ count-grows test i (suc k) h = go (le-cases h) (λ l. count-grows test i k l)
 pub count-more : (test : ℕ → Bool) (i k : ℕ) → i < k → test i ≡ true → count test i < count test k
 count-more test i k h e = omega (arith, count-yes test i e, count-grows test (suc i) k (omega arith))
 
--- two tests that nothing passes both, and a third that all pass that pass one of them
+-- p and q exclude each other, and each implies r
 pub count-both : (p q r : ℕ → Bool) → ((k : ℕ) → p k ≡ true → q k ≡ false) → ((k : ℕ) → p k ≡ true → r k ≡ true) → ((k : ℕ) → q k ≡ true → r k ≡ true)
     → (n : ℕ) → count p n + count q n ≤ count r n
 count-both p q r apart left right zero = omega arith

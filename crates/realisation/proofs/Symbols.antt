@@ -1,5 +1,5 @@
 -- The symbols given to a table that nests: each is less than those behind it in its stretch and greater than the one at its end, so the table is
--- their reach table; and they are fewer than the places.
+-- their reach table; and each is less than the number of places.
 use mathlib.Core.Bool.{Bool, true, false, cond, true≢false}
 use mathlib.Core.List.{List}
 use mathlib.Core.Logic.{_⊎_, inl, inr}
@@ -17,7 +17,7 @@ use Rattle.words.proofs.Tables.{longest-at-some, longest-at-stop, longest-at-st
 use Rattle.words.specs.Order.{Less, Lyndon}
 use Rattle.words.specs.Tables.{longestAt, lyndonArray}
 use Rattle.realisation.specs.Nested.{Nests, endOf}
-use Rattle.realisation.specs.Symbols.{count, endsAt, symbolTo, symbolAt, symbols}
+use Rattle.realisation.specs.Symbols.{count, childrenBefore, symbolTo, symbolAt, symbols}
 use Rattle.realisation.proofs.Count.{count-le, count-more, count-both}
 
 pub symbols-length : (t : List ℕ) → length (symbols t) ≡ length t
@@ -38,33 +38,33 @@ module _ {t : List ℕ} (nests : Nests t) where
       go (ltb (endOf t i) (length t)) refl (λ k. deep d e (endOf t i) k (omega arith) (omega arith))
     where
       go : (b : Bool) → ltb (endOf t i) (length t) ≡ b → (endOf t i < length t → symbolTo d t (endOf t i) ≡ symbolTo e t (endOf t i))
-          → endsAt t (endOf t i) i + cond b (suc (symbolTo d t (endOf t i))) 0 ≡ endsAt t (endOf t i) i + cond b (suc (symbolTo e t (endOf t i))) 0
-      go true x ih = ap (λ k. endsAt t (endOf t i) i + suc k) (ih (ltb-true _ _ x))
+          → childrenBefore t (endOf t i) i + cond b (suc (symbolTo d t (endOf t i))) 0 ≡ childrenBefore t (endOf t i) i + cond b (suc (symbolTo e t (endOf t i))) 0
+      go true x ih = ap (λ k. childrenBefore t (endOf t i) i + suc k) (ih (ltb-true _ _ x))
       go false x ih = refl
 
-  pub symbol-last : (i : ℕ) → i < length t → endOf t i ≡ length t → symbolAt t i ≡ endsAt t (endOf t i) i
+  pub symbol-last : (i : ℕ) → i < length t → endOf t i ≡ length t → symbolAt t i ≡ childrenBefore t (endOf t i) i
   unfolding symbolAt
   symbol-last i h e = go (length t) refl
     where
-      go : (n : ℕ) → length t ≡ n → symbolTo n t i ≡ endsAt t (endOf t i) i
+      go : (n : ℕ) → length t ≡ n → symbolTo n t i ≡ childrenBefore t (endOf t i) i
       go zero q = absurd (omega arith)
       go (suc n) q = rw (le-ltb (endOf t i) (length t) (omega arith)) (omega arith)
 
-  pub symbol-below : (i : ℕ) → i < length t → endOf t i < length t → symbolAt t i ≡ endsAt t (endOf t i) i + suc (symbolAt t (endOf t i))
+  pub symbol-below : (i : ℕ) → i < length t → endOf t i < length t → symbolAt t i ≡ childrenBefore t (endOf t i) i + suc (symbolAt t (endOf t i))
   unfolding symbolAt
   symbol-below i h l = go (length t) refl
     where
-      go : (n : ℕ) → length t ≡ n → symbolTo n t i ≡ endsAt t (endOf t i) i + suc (symbolTo (length t) t (endOf t i))
+      go : (n : ℕ) → length t ≡ n → symbolTo n t i ≡ childrenBefore t (endOf t i) i + suc (symbolTo (length t) t (endOf t i))
       go zero q = absurd (omega arith)
       go (suc n) q =
           let s = nests .some i h in
-          rw (lt-ltb (endOf t i) (length t) l) (ap (λ k. endsAt t (endOf t i) i + suc k) (deep n (length t) (endOf t i) l (omega arith) (omega arith)))
+          rw (lt-ltb (endOf t i) (length t) l) (ap (λ k. childrenBefore t (endOf t i) i + suc k) (deep n (length t) (endOf t i) l (omega arith) (omega arith)))
 
-  -- a place that hangs below m comes before one that hangs below m behind it
+  -- of two siblings the later one has the greater symbol
   sibling : (i k : ℕ) → i < k → k < length t → endOf t k ≡ endOf t i → symbolAt t i < symbolAt t k
   sibling i k l h e = go (le-cases (nests .within i (omega arith)))
     where
-      more : endsAt t (endOf t i) i < endsAt t (endOf t k) k
+      more : childrenBefore t (endOf t i) i < childrenBefore t (endOf t k) k
       more = rw e (count-more (λ j. eqb (endOf t j) (endOf t i)) i k l (eq-eqb (endOf t i) (endOf t i) refl))
 
       go : (endOf t i ≡ length t) ⊎ (endOf t i < length t) → symbolAt t i < symbolAt t k
@@ -85,7 +85,7 @@ module _ {t : List ℕ} (nests : Nests t) where
           let f : endOf t k < length t = omega (arith, nests .within i (omega arith)) in
           omega (arith, ih f q, symbol-below k h f)
 
-  -- those that hang below the end of the stretch at i or behind it are more than its symbol
+  -- the places whose parent is that of i or behind it are more than its symbol
   pub symbol-few : (d i : ℕ) → length t ≤ i + d → i < length t → symbolAt t i < count (λ j. leb (endOf t i) (endOf t j)) (length t)
   symbol-few zero i p h = absurd (omega arith)
   symbol-few (suc d) i p h = go (le-cases (nests .within i h)) (λ l. symbol-few d (endOf t i) (omega (arith, nests .some i h)) l)
@@ -93,7 +93,7 @@ module _ {t : List ℕ} (nests : Nests t) where
       m : ℕ
       m = endOf t i
 
-      here : endsAt t m i < count (λ j. eqb (endOf t j) m) (length t)
+      here : childrenBefore t m i < count (λ j. eqb (endOf t j) m) (length t)
       here = count-more (λ j. eqb (endOf t j) m) i (length t) h (eq-eqb m m refl)
 
       go : (m ≡ length t) ⊎ (m < length t) → (m < length t → symbolAt t m < count (λ j. leb (endOf t m) (endOf t j)) (length t))

@@ -1,5 +1,6 @@
--- A pattern for a table that nests, as a list of numbers. A place whose stretch ends at m hangs below m, and m = n is the root of all: a place gets
--- the number of places that hang below the same one before it, and above that one more than that one's symbol, where it is not the root.
+-- A pattern for a table that nests, as a list of numbers. Its places make a tree: the parent of a place is the one where its stretch ends, and the end
+-- of the table is the root. The symbol at a place is the number of its earlier siblings, plus, where its parent is not the root, one more than the
+-- symbol there.
 use mathlib.Core.Bool.{Bool, cond}
 use mathlib.Core.List.{List}
 use Prim.Native.Nat.{ℕ, zero, suc, _+_}
@@ -15,16 +16,16 @@ count test (suc n) =
     let rest = count test n in
     cond (test n) (suc rest) rest
 
--- How many of the stretches that start before i end at m.
-abbrev pub endsAt : List ℕ → ℕ → ℕ → ℕ
-endsAt t m i = count (λ j. eqb (endOf t j) m) i
+-- The number of children of m among the places before i.
+abbrev pub childrenBefore : List ℕ → ℕ → ℕ → ℕ
+childrenBefore t m i = count (λ j. eqb (endOf t j) m) i
 
--- The symbol at i; that of no place is taken as -1, so the root adds nothing. The bound on the depth is what the recursion carries.
+-- The symbol at a place; the depth bounds the recursion.
 abbrev pub symbolTo : ℕ → List ℕ → ℕ → ℕ
 symbolTo zero t i = 0
 symbolTo (suc depth) t i =
     let above = suc (symbolTo depth t (endOf t i)) in
-    endsAt t (endOf t i) i + cond (ltb (endOf t i) (length t)) above 0
+    childrenBefore t (endOf t i) i + cond (ltb (endOf t i) (length t)) above 0
 
 unfoldable pub symbolAt : List ℕ → ℕ → ℕ
 symbolAt t i = symbolTo (length t) t i

@@ -1,5 +1,5 @@
 // Where several refusals hold, the smallest number is answered, and nothing is written. A heading names those that hold, case by case. The call
-// whose order is not that of the numbers is in `wanted.rt`.
+// that tests 11 and 12 before 8 is in `wanted.rt`.
 use show::calls;
 
 fn last_factors(s: &[u8]) {

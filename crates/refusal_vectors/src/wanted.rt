@@ -15,13 +15,15 @@ fn bounds() {
     calls::realise_array(&[1, 65535], 2);
 }
 
-// A stretch that crosses the one before it, and at the end of a longer table; then the same with the second one shorter or the first one longer.
+// A stretch that crosses the one before it, at the start of a table and in the middle of a longer one; then the same with one of the two shorter or
+// longer, so that they nest.
 fn crossing() {
     show::heading(b"no pattern: crossing stretches; then what nests");
     calls::realise_array(&[2, 2, 1], 3);
     calls::realise_array(&[6, 1, 2, 3, 1, 1], 6);
     calls::realise_array(&[6, 1, 3, 1, 2, 1], 6);
     calls::realise_array(&[3, 2, 1], 3);
+    calls::realise_array(&[6, 1, 2, 1, 1, 1], 6);
     calls::realise_array(&[6, 1, 2, 1, 2, 1], 6);
     calls::realise_array(&[6, 1, 4, 1, 2, 1], 6);
 }

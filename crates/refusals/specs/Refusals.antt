@@ -1,4 +1,4 @@
--- The refusals: a number and a test each. A call has a list of them and refuses by the first that holds.
+-- The refusals: a number and a test each, but that of 12 is given from outside. A call has a list of them and refuses by the first that holds.
 use mathlib.Core.Bool.{Bool, cond, not, _||_}
 use mathlib.Core.List.{List, [], _∷_}
 use Prim.Native.Nat.{ℕ, zero, suc}
@@ -79,9 +79,9 @@ patternRepeated s = record { number = 10; holds = repeated s }
 abbrev pub wantedTooLong : List ℕ → Refusal
 wantedTooLong wanted = record { number = 11; holds = ltb maxWanted (length wanted) }
 
--- No byte pattern has the wanted table. Whether one has it no test here tries: the call's contract says it.
+-- No byte pattern has the wanted table. Nothing here computes it: the call's contract says what the flag means.
 abbrev pub noPattern : Bool → Refusal
-noPattern none = record { number = 12; holds = none }
+noPattern unrealisable = record { number = 12; holds = unrealisable }
 
 -- The refusals of an edit that need no result: 1 to 5.
 abbrev pub editRefusals : List ℕ → List ℕ → List ℕ → ℕ → ℕ → List ℕ → List Refusal

@@ -1,10 +1,10 @@
-// Wanted reach tables that patterns have: those that the sources print, those of the sheet's patterns, and the least ones. Which pattern is
-// written is left free, so what is printed of it is its reach table, which is the wanted one.
+// Wanted reach tables that patterns have: those of the papers' worked examples, and the least ones. Which pattern is written is left free, so what is
+// printed of it is its reach table, which is the wanted one.
 use show::calls;
 
-// The tables of `sources.rt`: P10 and its reduction, P11.
-fn published() {
-    show::heading(b"wanted tables that the sources print");
+// Those of `sources.rt`: P10 and its reduction, P11.
+fn examples() {
+    show::heading(b"wanted tables: P10 and its reduction, P11");
     calls::realise_array(&[9, 1, 1, 6, 2, 1, 3, 1, 1], 9);
     calls::realise_array(&[6, 1, 4, 1, 2, 1], 6);
     calls::realise_array(&[13, 1, 3, 1, 1, 8, 1, 3, 1, 1, 3, 1, 1], 13);
@@ -25,6 +25,6 @@ fn least() {
 }
 
 pub(crate) fn run() {
-    published();
+    examples();
     least();
 }

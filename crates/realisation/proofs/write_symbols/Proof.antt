@@ -1,4 +1,4 @@
--- `realisation::write_symbols` meets its contract: the ends of the first k stretches are counted; the symbols from i on are made.
+-- `realisation::write_symbols` meets its contract: the children among the first k places are counted; the symbols from i on are made.
 use mathlib.Core.Path.{_≡_}
 use Prim.Native.Nat.{_-_, _≤_, _<_}
 use lib.ListN.{length}
@@ -14,17 +14,17 @@ use Rattle.realisation.proofs.write_symbols.Reads as reads
 use Rattle.realisation.proofs.write_symbols.Lts as lts
 
 abbrev Inv-loop : tie.InvT-loop
-Inv-loop table pattern n ends₀ k₀ ends k = (k ≤ length table) × Counted table k ends
+Inv-loop table pattern n children₀ k₀ children k = (k ≤ length table) × Counted table k children
 
 abbrev μ-loop : tie.MeasureT-loop
-μ-loop table pattern n ends₀ k₀ ends k = length table - k
+μ-loop table pattern n children₀ k₀ children k = length table - k
 
 abbrev Inv-loop2 : tie.InvT-loop2
-Inv-loop2 table pattern₀ n ends₀ k i₀ pattern ends i =
-    (i ≤ length table) × Counted table i ends × Filled (symbolAt table) (length table) pattern₀ pattern i (length table)
+Inv-loop2 table pattern₀ n children₀ k i₀ pattern children i =
+    (i ≤ length table) × Counted table i children × Filled (symbolAt table) (length table) pattern₀ pattern i (length table)
 
 abbrev μ-loop2 : tie.MeasureT-loop2
-μ-loop2 table pattern₀ n ends₀ k i₀ pattern ends i = i
+μ-loop2 table pattern₀ n children₀ k i₀ pattern children i = i
 
 loop-holds : tie.Need-loop-holds Inv-loop μ-loop Inv-loop2 μ-loop2
 loop-holds c = (omega arith, counted-none (c .args .table .now) 257 (omega (arith, c .pre .0)))
@@ -41,37 +41,27 @@ cast-end c = omega (arith, c .shared-slice-known .given (c .before .before .loop
 add-end : tie.Need-add-end Inv-loop μ-loop Inv-loop2 μ-loop2
 add-end c = omega (arith, c .shared-slice-known .given (c .before .before .loop .k))
 
-mul-ends : tie.Need-mul-ends Inv-loop μ-loop Inv-loop2 μ-loop2
-mul-ends c =
+array-read-children : tie.Need-array-read-children Inv-loop μ-loop Inv-loop2 μ-loop2
+array-read-children c =
     let l = c .before .before in
     let b = l .before in
     let i = l .loop .k in
     let h : i < length (b .args .table .now) = omega arith in
     omega (arith, b .pre .2 .within i h)
 
-array-read-ends : tie.Need-array-read-ends Inv-loop μ-loop Inv-loop2 μ-loop2
-array-read-ends c =
-    let l = c .before .before in
-    let b = l .before in
-    let i = l .loop .k in
-    let h : i < length (b .args .table .now) = omega arith in
-    omega (arith, b .pre .2 .within i h)
+mul-children : tie.Need-mul-children Inv-loop μ-loop Inv-loop2 μ-loop2
+mul-children c = omega (arith, array-read-children c)
 
-add-ends : tie.Need-add-ends Inv-loop μ-loop Inv-loop2 μ-loop2
-add-ends c =
+add-children : tie.Need-add-children Inv-loop μ-loop Inv-loop2 μ-loop2
+add-children c =
     let l = c .before .before in
     let b = l .before in
     let i = l .loop .k in
     let h : i < length (b .args .table .now) = omega arith in
     omega (arith, counted-few (b .pre .2) h (l .loop .inv .1))
 
-array-write-ends : tie.Need-array-write-ends Inv-loop μ-loop Inv-loop2 μ-loop2
-array-write-ends c =
-    let l = c .before .before in
-    let b = l .before in
-    let i = l .loop .k in
-    let h : i < length (b .args .table .now) = omega arith in
-    omega (arith, b .pre .2 .within i h)
+array-write-children : tie.Need-array-write-children Inv-loop μ-loop Inv-loop2 μ-loop2
+array-write-children c = array-read-children c
 
 add-k : tie.Need-add-k Inv-loop μ-loop Inv-loop2 μ-loop2
 add-k c = search needs
@@ -110,14 +100,6 @@ cast-end-2 c = omega (arith, c .shared-slice-known2 .given (c .before .before .l
 add-end-2 : tie.Need-add-end-2 Inv-loop μ-loop Inv-loop2 μ-loop2
 add-end-2 c = omega (arith, c .shared-slice-known2 .given (c .before .before .loop2 .i - 1))
 
-mul-earlier : tie.Need-mul-earlier Inv-loop μ-loop Inv-loop2 μ-loop2
-mul-earlier c =
-    let l = c .before .before in
-    let b = l .before .before .before in
-    let i = l .loop2 .i - 1 in
-    let h : i < length (b .args .table .now) = omega arith in
-    omega (arith, b .pre .2 .within i h)
-
 array-read-earlier : tie.Need-array-read-earlier Inv-loop μ-loop Inv-loop2 μ-loop2
 array-read-earlier c =
     let l = c .before .before in
@@ -125,6 +107,9 @@ array-read-earlier c =
     let i = l .loop2 .i - 1 in
     let h : i < length (b .args .table .now) = omega arith in
     omega (arith, b .pre .2 .within i h)
+
+mul-earlier : tie.Need-mul-earlier Inv-loop μ-loop Inv-loop2 μ-loop2
+mul-earlier c = omega (arith, array-read-earlier c)
 
 sub-earlier : tie.Need-sub-earlier Inv-loop μ-loop Inv-loop2 μ-loop2
 sub-earlier c =
@@ -134,40 +119,14 @@ sub-earlier c =
     let h : i < length (b .args .table .now) = omega arith in
     omega (arith, counted-some (b .pre .2) h (omega arith) (l .loop2 .inv .1))
 
-mul-ends-2 : tie.Need-mul-ends-2 Inv-loop μ-loop Inv-loop2 μ-loop2
-mul-ends-2 c =
-    let l = c .before .before in
-    let b = l .before .before .before in
-    let i = l .loop2 .i - 1 in
-    let h : i < length (b .args .table .now) = omega arith in
-    omega (arith, b .pre .2 .within i h)
+mul-children-2 : tie.Need-mul-children-2 Inv-loop μ-loop Inv-loop2 μ-loop2
+mul-children-2 c = mul-earlier c
 
-array-write-ends-2 : tie.Need-array-write-ends-2 Inv-loop μ-loop Inv-loop2 μ-loop2
-array-write-ends-2 c =
-    let l = c .before .before in
-    let b = l .before .before .before in
-    let i = l .loop2 .i - 1 in
-    let h : i < length (b .args .table .now) = omega arith in
-    omega (arith, b .pre .2 .within i h)
+array-write-children-2 : tie.Need-array-write-children-2 Inv-loop μ-loop Inv-loop2 μ-loop2
+array-write-children-2 c = array-read-earlier c
 
 slice-read-pattern : tie.Need-slice-read-pattern Inv-loop μ-loop Inv-loop2 μ-loop2
 slice-read-pattern c = omega (arith, c .before .before .before .before .loop2 .inv .2 .size)
-
-add-pattern : tie.Need-add-pattern Inv-loop μ-loop Inv-loop2 μ-loop2
-add-pattern c =
-    let l = c .before .before .before .before in
-    let b = l .before .before .before in
-    let i = l .loop2 .i - 1 in
-    let h : i < length (b .args .table .now) = omega arith in
-    omega (arith, below-fits (b .pre .2) h (omega arith) (l .loop2 .inv .1) (l .loop2 .inv .2) (omega arith))
-
-cast-pattern : tie.Need-cast-pattern Inv-loop μ-loop Inv-loop2 μ-loop2
-cast-pattern c =
-    let l = c .before .before .before .before in
-    let b = l .before .before .before in
-    let i = l .loop2 .i - 1 in
-    let h : i < length (b .args .table .now) = omega arith in
-    omega (arith, below-fits (b .pre .2) h (omega arith) (l .loop2 .inv .1) (l .loop2 .inv .2) (omega arith))
 
 add-pattern-2 : tie.Need-add-pattern-2 Inv-loop μ-loop Inv-loop2 μ-loop2
 add-pattern-2 c =
@@ -176,6 +135,12 @@ add-pattern-2 c =
     let i = l .loop2 .i - 1 in
     let h : i < length (b .args .table .now) = omega arith in
     omega (arith, below-fits (b .pre .2) h (omega arith) (l .loop2 .inv .1) (l .loop2 .inv .2) (omega arith))
+
+add-pattern : tie.Need-add-pattern Inv-loop μ-loop Inv-loop2 μ-loop2
+add-pattern c = omega (arith, add-pattern-2 c)
+
+cast-pattern : tie.Need-cast-pattern Inv-loop μ-loop Inv-loop2 μ-loop2
+cast-pattern c = omega (arith, add-pattern-2 c)
 
 slice-write-pattern : tie.Need-slice-write-pattern Inv-loop μ-loop Inv-loop2 μ-loop2
 slice-write-pattern c = omega (arith, c .before .before .before .before .loop2 .inv .2 .size)
@@ -241,10 +206,10 @@ write-symbols-spec =
     shared-slice-read-end
     cast-end
     add-end
-    mul-ends
-    array-read-ends
-    add-ends
-    array-write-ends
+    mul-children
+    array-read-children
+    add-children
+    array-write-children
     add-k
     loop-less
     loop-again
@@ -257,8 +222,8 @@ write-symbols-spec =
     mul-earlier
     array-read-earlier
     sub-earlier
-    mul-ends-2
-    array-write-ends-2
+    mul-children-2
+    array-write-children-2
     slice-read-pattern
     add-pattern
     cast-pattern
