@@ -2,7 +2,6 @@
 // and prints the answer with what the call leaves there. A part of the row is `[0..n]`: of `[..n]` the search does not know the length.
 use refusals::Filled;
 use refusals::MAX_PATTERN;
-use refusals::MAX_WANTED;
 ghost use Prim.Native.Nat.{_≤_};
 
 // What each entry of a row holds before a call, and the longest row.
@@ -65,8 +64,8 @@ pub fn realise_array(wanted: &[u16], room: usize) {
 // The pattern in the buffer is left free, so its Lyndon array is printed for it, and then the bytes behind it.
 fn realised(a: Filled, buffer: &[u8]) {
     let count = least(a.count, buffer.len());
-    let mut space = [OLD; MAX_WANTED];
-    let n = least(count, MAX_WANTED);
+    let mut space = [OLD; SPACE];
+    let n = least(count, SPACE);
     let array = &mut space[0..n];
     lyndon::lyndon_array(&buffer[0..count], array);
     crate::realised(a, array, &buffer[count..]);
