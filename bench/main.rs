@@ -129,8 +129,9 @@ fn names<I>(families: &[Family<I>]) -> Vec<&'static str> {
     families.iter().map(|f| f.0).collect()
 }
 
-/// Of a table whose families are lengths, and of the one about wanted tables.
+/// Of a table whose families are lengths.
 const LENGTHS: &str = "blocks";
+/// Of the table about wanted tables.
 const ENTRIES: &str = "256 entries";
 
 fn main() {

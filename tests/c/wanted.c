@@ -1,5 +1,6 @@
-/* Wanted tables: those of all short strings of two letters, the longest, and each refusal, alone and with later ones. Which pattern is written is left free,
- * so it is judged by its table, from naive.c for a short one. All tables against all patterns are left to tests/compare. */
+/* Wanted tables: those of all short strings of two letters, the longest, and each refusal, alone and with later ones. Which pattern is
+ * written is left free, so it is judged by its table, from naive.c for a short one. All tables against all patterns are left to
+ * tests/compare. */
 #include "naive.h"
 #include "tests.h"
 

@@ -18,8 +18,8 @@ use Rattle.rows.specs.Row.{written}
 use Rattle.lyndon.specs.Calls.{HasArray, ArrayRealised}
 
 module _ (t row : List ℕ) (r : Filled) where
-  pub wanted-refused : maxWanted < length t → Refused r 11 → ArrayRealised t row row r
-  wanted-refused h q =
+  pub wanted-too-long : maxWanted < length t → Refused r 11 → ArrayRealised t row row r
+  wanted-too-long h q =
       record {
         pattern = [];
         unrealisable = false;

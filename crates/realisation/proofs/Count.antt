@@ -24,7 +24,7 @@ pub count-le : (test : ℕ → Bool) (n : ℕ) → count test n ≤ n
 count-le test zero = omega arith
 count-le test (suc n) = omega (arith, step test n .1, count-le test n)
 
-pub count-grows : (test : ℕ → Bool) (i k : ℕ) → i ≤ k → count test i ≤ count test k
+count-grows : (test : ℕ → Bool) (i k : ℕ) → i ≤ k → count test i ≤ count test k
 count-grows test i zero h =
     let e : i ≡ 0 = omega arith in
     rw e (omega arith)

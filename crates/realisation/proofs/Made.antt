@@ -24,7 +24,7 @@ pub record Counted (t : List ℕ) (i : ℕ) (children : List ℕ) : Type 0 where
 
 -- i is a child of its parent, and of no other place
 module _ (t : List ℕ) (i : ℕ) where
-  pub count-here : childrenBefore t (endOf t i) (i + 1) ≡ childrenBefore t (endOf t i) i + 1
+  count-here : childrenBefore t (endOf t i) (i + 1) ≡ childrenBefore t (endOf t i) i + 1
   count-here =
       let e : i + 1 ≡ suc i = add-one i in
       rw e (omega (arith, count-yes (λ j. eqb (endOf t j) (endOf t i)) i (eq-eqb (endOf t i) (endOf t i) refl)))

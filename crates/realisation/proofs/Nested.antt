@@ -32,7 +32,7 @@ module _ (s : List ℕ) (i j : ℕ) (h : i < length s) (l : i < j) (r : j < i + 
       within (factors (drop i s)) (factors-falling (drop i s)) before word (drop (longestAt s j) (drop j s)) (longest-at-word s j placed)
       (join-factors (drop i s) ∙ sym (take-append-drop (j - i) (drop i s)) ∙ ap (λ u. before ++ u) (d ∙ sym (take-append-drop (longestAt s j) (drop j s))))
 
-  pub ends-inside : j + longestAt s j ≤ i + longestAt s i
+  ends-inside : j + longestAt s j ≤ i + longestAt s i
   ends-inside = go (found .before) (sym (chain-suffix s i h) ∙ found .parts) (found .front)
     where
       size : length first ≡ longestAt s i

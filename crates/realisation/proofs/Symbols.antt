@@ -72,7 +72,7 @@ module _ {t : List ℕ} (nests : Nests t) where
       go (inr q) =
           omega (arith, more, symbol-below i (omega arith) q, symbol-below k h (omega arith), ap (symbolAt t) e)
 
-  pub symbol-rises : (d i k : ℕ) → length t ≤ k + d → i < k → k < length t → k < endOf t i → symbolAt t i < symbolAt t k
+  symbol-rises : (d i k : ℕ) → length t ≤ k + d → i < k → k < length t → k < endOf t i → symbolAt t i < symbolAt t k
   symbol-rises zero i k p l h r = absurd (omega arith)
   symbol-rises (suc d) i k p l h r =
       let on = nests .some k h in
@@ -86,7 +86,7 @@ module _ {t : List ℕ} (nests : Nests t) where
           omega (arith, ih f q, symbol-below k h f)
 
   -- the places whose parent is that of i or behind it are more than its symbol
-  pub symbol-few : (d i : ℕ) → length t ≤ i + d → i < length t → symbolAt t i < count (λ j. leb (endOf t i) (endOf t j)) (length t)
+  symbol-few : (d i : ℕ) → length t ≤ i + d → i < length t → symbolAt t i < count (λ j. leb (endOf t i) (endOf t j)) (length t)
   symbol-few zero i p h = absurd (omega arith)
   symbol-few (suc d) i p h = go (le-cases (nests .within i h)) (λ l. symbol-few d (endOf t i) (omega (arith, nests .some i h)) l)
     where
@@ -134,7 +134,7 @@ module _ (s : List ℕ) where
         below-lyndon s i l fits some
         (λ c a b. record { left = i; right = c; apart = omega arith; after = omega arith; inside = b; less = least c a b; before = λ x y p q r. absurd (omega arith) })
 
-    pub longest-at-least : (i + l < length s → getD s (i + l) 0 < getD s i 0) → longestAt s i ≡ l
+    longest-at-least : (i + l < length s → getD s (i + l) 0 < getD s i 0) → longestAt s i ≡ l
     longest-at-least falls = go (le-cases fits)
       where
         go : (i + l ≡ length s) ⊎ (i + l < length s) → longestAt s i ≡ l

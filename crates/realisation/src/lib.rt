@@ -37,7 +37,7 @@ pub fn nests(table: &[u16]) -> bool
     true
 }
 
-// Writes a pattern that has the table.
+// Writes a pattern that has the table. Where the stretch of a place ends is its parent, whose symbol is there before its own: from the right.
 pub fn write_symbols(table: &[u16], pattern: &mut [u8])
     requires { ⌜ (length (now table) ≤ maxWanted) × (length (now table) ≤ length (now pattern)) × Nests (now table) ⌝ }
     ensures { λ _. ⌜ now (pattern .exit) ≡ written (symbols (now (table .entry))) (now (pattern .entry)) ⌝ }

@@ -1,7 +1,8 @@
 -- `realisation::write_symbols` meets its contract: the children among the first k places are counted; the symbols from i on are made.
 use mathlib.Core.Path.{_≡_}
-use Prim.Native.Nat.{_-_, _≤_, _<_}
+use Prim.Native.Nat.{_+_, _-_, _≤_, _<_}
 use lib.ListN.{length}
+use Rattle.refusals.specs.Refusals.{maxWanted}
 use Rattle.rows.proofs.Fill.{Filled, filled-none, filled-down, filled-all}
 use Rattle.realisation.specs.Symbols.{symbolAt}
 use Rattle.realisation.proofs.Made.{Counted, counted-none, counted-few, counted-turn, counted-some, counted-back}
@@ -27,7 +28,7 @@ abbrev μ-loop2 : tie.MeasureT-loop2
 μ-loop2 table pattern₀ n children₀ k i₀ pattern children i = i
 
 loop-holds : tie.Need-loop-holds Inv-loop μ-loop Inv-loop2 μ-loop2
-loop-holds c = (omega arith, counted-none (c .args .table .now) 257 (omega (arith, c .pre .0)))
+loop-holds c = (omega arith, counted-none (c .args .table .now) (maxWanted + 1) (omega (arith, c .pre .0)))
 
 mul-end : tie.Need-mul-end Inv-loop μ-loop Inv-loop2 μ-loop2
 mul-end c = search needs
