@@ -42,6 +42,7 @@ module _ {t : List ℕ} (nests : Nests t) where
       go true x ih = ap (λ k. childrenBefore t (endOf t i) i + suc k) (ih (ltb-true _ _ x))
       go false x ih = refl
 
+  -- the rule without the depth: where the parent is the root, and where it is a place
   pub symbol-last : (i : ℕ) → i < length t → endOf t i ≡ length t → symbolAt t i ≡ childrenBefore t (endOf t i) i
   unfolding symbolAt
   symbol-last i h e = go (length t) refl
@@ -72,6 +73,7 @@ module _ {t : List ℕ} (nests : Nests t) where
       go (inr q) =
           omega (arith, more, symbol-below i (omega arith) q, symbol-below k h (omega arith), ap (symbolAt t) e)
 
+  -- a symbol is less than those behind it in its stretch
   symbol-rises : (d i k : ℕ) → length t ≤ k + d → i < k → k < length t → k < endOf t i → symbolAt t i < symbolAt t k
   symbol-rises zero i k p l h r = absurd (omega arith)
   symbol-rises (suc d) i k p l h r =
