@@ -19,7 +19,9 @@ pub fn one(t: &mut Tally, wanted: &[u16], had: bool, room: usize, reach: fn(&[u8
     let case = || format!("realise_array of {}, buffer of {room}", brief(wanted));
     t.equal(&got, &(number, [if number == 0 { n } else { 0 }, 0]), case);
     let pattern = if number == 0 { buffer.contents()[..n].to_vec() } else { vec![] };
-    t.check(reach(&pattern) == wanted || number > 0, || format!("{}: {} has another table", case(), show(&pattern)));
+    if number == 0 {
+        t.check(reach(&pattern) == wanted, || format!("{}: {} has another table", case(), show(&pattern)));
+    }
     t.check(buffer.holds(&pattern), || format!("{}: bytes behind the pattern were changed", case()));
     t.check(table.unchanged(), || format!("{}: the table was changed", case()));
 }
@@ -105,13 +107,13 @@ pub fn random(t: &mut Tally, r: &mut Random, count: usize) {
     }
 }
 
-/// A table whose stretches nest, drawn from the right: each ends where one of those behind it starts that follow one another from there on, or at the
-/// end; the nearer ones are the likelier, by so much.
-fn nested(r: &mut Random, n: usize, likelier: usize) -> Vec<u16> {
+/// A table whose stretches nest, drawn from the right: those behind a start follow one another to the end, and its own ends before one of them, with a
+/// chance of one in `odds` at each, or at the end.
+fn nested(r: &mut Random, n: usize, odds: usize) -> Vec<u16> {
     let mut table = vec![0; n];
     for start in (0..n).rev() {
         let mut end = start + 1;
-        while end < n && r.below(likelier) > 0 {
+        while end < n && r.below(odds) > 0 {
             end += usize::from(table[end]);
         }
         table[start] = (end - start) as u16;
@@ -119,12 +121,12 @@ fn nested(r: &mut Random, n: usize, likelier: usize) -> Vec<u16> {
     table
 }
 
-/// Tables drawn as such: their patterns need more letters than those of random patterns do.
+/// Tables drawn as such, from those with short stretches to those in which most go to the end.
 pub fn drawn(t: &mut Tally, r: &mut Random, count: usize) {
     for k in 0..count {
         let n = length(r);
-        let likelier = [2, 3, 8, 64, 1024][k % 5];
-        let table = nested(r, n, likelier);
+        let odds = [2, 3, 8, 64, 1024][k % 5];
+        let table = nested(r, n, odds);
         t.check(oracle::nests(&table), || format!("drawn table {k} does not nest"));
         around(t, r, format!("drawn table {k}"), &table);
     }

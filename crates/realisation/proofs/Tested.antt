@@ -1,10 +1,12 @@
 -- How `nests` tests a table from the right: the stretches from i on nest, and those behind i are passed over one after the other.
 use mathlib.Core.Bool.{true, false, true≢false}
 use mathlib.Core.List.{List}
+use mathlib.Core.Logic.{_⊎_, inl, inr}
 use mathlib.Core.Path.{_≡_, sym}
 use Prim.Native.Nat.{ℕ, _+_, _≤_, _<_}
 use native.Mathlib.Omega.{arith}
 use lib.ListN.{length}
+use Rattle.words.proofs.Bounded.{le-cases}
 use Rattle.words.proofs.Order.{ThreeN, smallerN, equalN, greaterN, threeN}
 use Rattle.realisation.specs.Nested.{Nests, NestsTold, endOf}
 
@@ -63,24 +65,21 @@ module _ (t : List ℕ) where
     pub from-turn : endOf t i ≤ length t → Passed t i (endOf t i) → NestsFrom t i
     from-turn h p =
         record {
-          some = λ k a b. go-some k a b (threeN k i);
-          within = λ k a b. go-within k a b (threeN k i);
-          inside = λ k q a b c d. go-inside k q a b c d (threeN k i);
+          some = λ k a b. go-some k b (le-cases a);
+          within = λ k a b. go-within k b (le-cases a);
+          inside = λ k q a b c d. go-inside k q b c d (le-cases a);
         }
       where
-        go-some : (k : ℕ) → i ≤ k → k < length t → ThreeN k i → k < endOf t k
-        go-some k a b (smallerN l) = absurd (omega arith)
-        go-some k a b (equalN x) = rw x (p .behind)
-        go-some k a b (greaterN l) = f .some k (omega arith) b
+        go-some : (k : ℕ) → k < length t → (i ≡ k) ⊎ (i < k) → k < endOf t k
+        go-some k b (inl x) = rw (← x) (p .behind)
+        go-some k b (inr l) = f .some k (omega arith) b
 
-        go-within : (k : ℕ) → i ≤ k → k < length t → ThreeN k i → endOf t k ≤ length t
-        go-within k a b (smallerN l) = absurd (omega arith)
-        go-within k a b (equalN x) = rw x h
-        go-within k a b (greaterN l) = f .within k (omega arith) b
+        go-within : (k : ℕ) → k < length t → (i ≡ k) ⊎ (i < k) → endOf t k ≤ length t
+        go-within k b (inl x) = rw (← x) h
+        go-within k b (inr l) = f .within k (omega arith) b
 
-        go-inside : (k q : ℕ) → i ≤ k → k < length t → k < q → q < endOf t k → ThreeN k i → endOf t q ≤ endOf t k
-        go-inside k q a b c d (smallerN l) = absurd (omega arith)
-        go-inside k q a b c d (equalN x) =
-            let r : q < endOf t i = rw x at d in
-            rw x (p .ends q (omega arith) r)
-        go-inside k q a b c d (greaterN l) = f .inside k q (omega arith) b c d
+        go-inside : (k q : ℕ) → k < length t → k < q → q < endOf t k → (i ≡ k) ⊎ (i < k) → endOf t q ≤ endOf t k
+        go-inside k q b c d (inl x) =
+            let r : q < endOf t i = rw x d in
+            rw (← x) (p .ends q (omega arith) r)
+        go-inside k q b c d (inr l) = f .inside k q (omega arith) b c d
