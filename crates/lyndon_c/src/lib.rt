@@ -1,5 +1,5 @@
-// The calls of `lyndon`, `lyndon_words`, `lyndon_parts`, `lyndon_text` and `block` under C names, on numbers and slices: the answer is the
-// refusal's number, and what else is told goes through `&mut`. Each body is the call and the taking apart of its answer; include/lyndon.h
+// The calls of `lyndon`, `lyndon_words`, `lyndon_compare`, `lyndon_parts`, `lyndon_text` and `block` under C names, on numbers and slices: the
+// answer is the refusal's number, and what else is told goes through `&mut`. Each body is the call and the taking apart of its answer; include/lyndon.h
 // declares them. Slices stand before numbers in every list of parameters: a slice that got the last register and a place on the stack would
 // not be found where Rust puts one.
 use block::read_block;
@@ -7,6 +7,8 @@ use block::write_block;
 use lyndon::factor;
 use lyndon::last_factors;
 use lyndon::realise_array;
+use lyndon_compare::Comparison;
+use lyndon_compare::compare;
 use lyndon_parts::factor_prefix;
 use lyndon_parts::factor_suffix;
 use lyndon_text::write_listing;
@@ -15,12 +17,15 @@ use lyndon_words::least_rotation;
 use lyndon_words::longest_word;
 use lyndon_words::longest_words;
 use rows::write_bytes;
+ghost use mathlib.Core.Path.{_≡_};
 ghost use Rattle.lyndon.specs.Calls.{Factored, ArrayMade, LastFactorsMade, ArrayRealised};
 ghost use Rattle.lyndon_words.specs.Calls.{StartsListed, wordPart, LyndonTold, RotationFound, TreeListed};
+ghost use Rattle.lyndon_compare.specs.Calls.{comparison};
 ghost use Rattle.lyndon_parts.specs.Calls.{PrefixFactored, SuffixFactored};
 ghost use Rattle.lyndon_text.specs.Calls.{ListingWritten};
 ghost use Rattle.block.specs.Calls.{BlockRead, BlockWritten};
 ghost use Rattle.lyndon_c.specs.Copied.{Copied};
+ghost use Rattle.lyndon_c.specs.Flat.{flatOf};
 
 #[no_mangle]
 pub extern "C" fn lyndon_factor(pattern: &[u8], groups: &mut [u16], count: &mut usize) -> u8
@@ -100,6 +105,30 @@ pub extern "C" fn lyndon_is_lyndon(word: &[u8], yes: &mut bool) -> u8
     let answer = is_lyndon(word);
     *yes = answer.yes;
     answer.refusal
+}
+
+// An enum is no answer for C: beside a refusal both numbers are 0.
+#[no_mangle]
+pub extern "C" fn lyndon_compare(
+    first: &[u8],
+    second: &[u8],
+    shared: &mut usize,
+    smaller: &mut u8,
+) -> u8
+    ensures { λ r. ⌜ (r, now (shared .exit), now (smaller .exit)) ≡ flatOf (comparison (now (first .entry)) (now (second .entry))) ⌝ }
+{
+    match compare(first, second) {
+        Comparison::Done(c) => {
+            *shared = c.shared;
+            *smaller = c.smaller;
+            0
+        }
+        Comparison::Refused(number) => {
+            *shared = 0;
+            *smaller = 0;
+            number
+        }
+    }
 }
 
 #[no_mangle]

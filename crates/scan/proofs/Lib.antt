@@ -1,3 +1,3 @@
-pub mod Compare
+pub mod Decided
 pub mod Next
 pub mod Pass

@@ -5,6 +5,7 @@ ghost use mathlib.Core.Logic.{_⊎_};
 ghost use Prim.Native.Nat.{_<_, _≤_};
 ghost use lib.ListN.{length};
 ghost use Rattle.words.specs.Order.{less, same};
+ghost use Rattle.scan.specs.Compared.{smallerNumber, compared};
 ghost use Rattle.scan.specs.Group.{NextGroup};
 
 // The smaller of two lengths.
@@ -14,9 +15,28 @@ fn shorter(m: usize, n: usize) -> usize
     if m < n { m } else { n }
 }
 
-// Whether a is smaller than b.
-pub fn precedes(a: &[u8], b: &[u8]) -> bool
-    ensures { λ r. ⌜ r ≡ less (now (a .entry)) (now (b .entry)) ⌝ }
+// Which of two numbers is smaller: 1 the first, 2 the second, 0 where neither is.
+fn smaller_number(m: usize, n: usize) -> u8
+    ensures { λ r. ⌜ r ≡ smallerNumber m n ⌝ }
+{
+    if m < n {
+        return 1;
+    }
+    if n < m {
+        return 2;
+    }
+    0
+}
+
+// Two strings compared: their shared length, and which is smaller: 1 the first, 2 the second, 0 where neither is.
+pub struct Compared {
+    pub shared: usize,
+    pub smaller: u8,
+}
+
+// Compares two strings; the only loop that does.
+pub fn compare(a: &[u8], b: &[u8]) -> Compared
+    ensures { λ r. ⌜ r ≡ compared (now (a .entry)) (now (b .entry)) ⌝ }
 {
     let end = shorter(a.len(), b.len());
     let mut k = 0;
@@ -24,11 +44,25 @@ pub fn precedes(a: &[u8], b: &[u8]) -> bool
         let left = a[k];
         let right = b[k];
         if left != right {
-            return left < right;
+            return Compared {
+                shared: k,
+                smaller: smaller_number(left as usize, right as usize),
+            };
         }
         k += 1;
     }
-    a.len() < b.len()
+    Compared {
+        shared: end,
+        smaller: smaller_number(a.len(), b.len()),
+    }
+}
+
+// Whether a is smaller than b.
+pub fn precedes(a: &[u8], b: &[u8]) -> bool
+    ensures { λ r. ⌜ r ≡ less (now (a .entry)) (now (b .entry)) ⌝ }
+{
+    let c = compare(a, b);
+    c.smaller == 1
 }
 
 // Whether a and b are the same string.
@@ -38,14 +72,8 @@ pub fn agree(a: &[u8], b: &[u8]) -> bool
     if a.len() != b.len() {
         return false;
     }
-    let mut k = 0;
-    while k < a.len() {
-        if a[k] != b[k] {
-            return false;
-        }
-        k += 1;
-    }
-    true
+    let c = compare(a, b);
+    c.smaller == 0
 }
 
 // A stretch of equal neighbouring factors: the length of one, and how many there are.

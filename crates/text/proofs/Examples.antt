@@ -1,6 +1,7 @@
 -- The listing of the worked example and others, computed from the definitions.
 use mathlib.Core.Path.{_≡_, refl}
 use Rattle.hex.specs.Hex.{pairOf}
+use Rattle.words.specs.Order.{shared}
 use Rattle.words.specs.Factors.{factors}
 use Rattle.words.specs.Tables.{groups}
 use Rattle.words.specs.Edit.{edited}
@@ -9,23 +10,23 @@ use Rattle.text.specs.Listing.{header, line, listingText, editedText, re
 
 -- the worked example
 pub example-listing : listingText (codes "acbabcabcabac")
-    ≡ codes "start,length,power,word\r\n0,3,1,616362\r\n3,3,2,616263\r\n9,4,1,61626163\r\n"
-unfolding listingText groups factors header line decimal digitCount pairOf
+    ≡ codes "start,length,power,word,shared\r\n0,3,1,616362,1\r\n3,3,2,616263,2\r\n9,4,1,61626163,0\r\n"
+unfolding listingText groups factors header line shared decimal digitCount pairOf
 example-listing = refl
 
-pub empty-listing : listingText (codes "") ≡ codes "start,length,power,word\r\n"
+pub empty-listing : listingText (codes "") ≡ codes "start,length,power,word,shared\r\n"
 unfolding listingText groups factors header
 empty-listing = refl
 
 -- P12: equal words across both seams are one line
-pub example-edited : editedText (codes "aa") 1 1 (codes "a") ≡ codes "start,length,power,word\r\n0,1,3,61\r\n"
-unfolding edited listingText groups factors header line decimal digitCount pairOf
+pub example-edited : editedText (codes "aa") 1 1 (codes "a") ≡ codes "start,length,power,word,shared\r\n0,1,3,61,0\r\n"
+unfolding edited listingText groups factors header line shared decimal digitCount pairOf
 example-edited = refl
 
 -- P6
 pub example-split : editedText (codes "acbabcabcabac") 11 11 (codes "a")
-    ≡ codes "start,length,power,word\r\n0,3,1,616362\r\n3,3,2,616263\r\n9,2,1,6162\r\n11,3,1,616163\r\n"
-unfolding edited listingText groups factors header line decimal digitCount pairOf
+    ≡ codes "start,length,power,word,shared\r\n0,3,1,616362,1\r\n3,3,2,616263,2\r\n9,2,1,6162,1\r\n11,3,1,616163,0\r\n"
+unfolding edited listingText groups factors header line shared decimal digitCount pairOf
 example-split = refl
 
 pub example-refusal : refusalText 1 ≡ codes "refused,1\r\n"

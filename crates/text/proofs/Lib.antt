@@ -3,3 +3,4 @@ pub mod Begins
 pub mod Word
 pub mod Lines
 pub mod Examples
+pub mod Column

@@ -1,32 +1,45 @@
 -- A line as its writer makes it, field by field, the lines of a pass over the groups, and the listing, with a buffer length that always suffices.
-use mathlib.Core.List.{List, _++_}
-use mathlib.Core.Path.{_≡_, ap, _∙_}
+use mathlib.Core.List.{List, [], _++_}
+use mathlib.Core.Logic.{_⊎_, inl, inr}
+use mathlib.Core.Path.{_≡_, refl, sym, ap, _∙_}
 use Prim.Native.Nat.{ℕ, _+_, _-_, _*_, _≤_, _<_}
 use native.Mathlib.Omega.{arith}
-use lib.ListN.{length, take, drop, length-append, length-drop}
+use lib.ListN.{length, take, drop, set, length-append, length-drop}
 use lib.Seq.{length-take-le}
-use Rattle.rows.proofs.Wrote.{Wrote, wrote-part, wrote-room}
+use Rattle.rows.proofs.Wrote.{Wrote, wrote-part, wrote-room, set-written}
 use Rattle.refusals.specs.Refusals.{maxPattern}
 use Rattle.scan.specs.Group.{NextGroup}
-use Rattle.scan.proofs.Next.{groups-start}
+use Rattle.scan.proofs.Next.{groups-start, suffix-end}
 use Rattle.scan.proofs.Pass.{length-fits}
+use Rattle.words.specs.Order.{shared}
 use Rattle.words.specs.Tables.{suffixGroups}
+use Rattle.words.proofs.Bounded.{le-or-lt}
+use Rattle.words.proofs.Groups.{group}
+use Rattle.words.proofs.Shared.{shared-right}
 use Rattle.decimal.specs.Decimal.{codes, decimal}
 use Rattle.text.specs.Hexadecimal.{hexadecimal}
-use Rattle.text.specs.Inner.{maxListing}
-use Rattle.text.specs.Listing.{header, lineEnd, field, line, lines, listingText, refusalText}
+use Rattle.text.specs.Inner.{maxListing, GroupFrom}
+use Rattle.text.specs.Listing.{header, lineEnd, field, lastField, sharedColumn, line, lines, listingText, refusalText}
 use Rattle.rows.specs.Written.{Room, Puts}
 use Rattle.decimal.proofs.Decimal.{count-least, length-decimal}
-use Rattle.text.proofs.Lengths.{length-header, line-parts, suffix-most}
+use Rattle.text.proofs.Lengths.{length-header, length-last, line-parts, suffix-most}
 use Rattle.rows.proofs.Puts.{puts-then}
 
-pub line-put : (start power : ℕ) (word d : List ℕ) (i : ℕ) {b₁ b₂ b₃ b₄ b₅ : List ℕ} {n₁ n₂ n₃ n₄ n₅ : ℕ}
-    → Room (line start (length word) power word) i d → Puts (field start) i d b₁ n₁ → Puts (field (length word)) n₁ b₁ b₂ n₂
-    → Puts (field power) n₂ b₂ b₃ n₃ → Puts (hexadecimal word) n₃ b₃ b₄ n₄ → Puts lineEnd n₄ b₄ b₅ n₅
-    → Puts (line start (length word) power word) i d b₅ n₅
+pub last-put : (number : ℕ) (d : List ℕ) (i : ℕ) {b₁ b₂ : List ℕ} {n₁ n₂ : ℕ} → Room (lastField number) i d
+    → Puts (decimal number) (i + 1) (set d i 44) b₁ n₁ → Puts lineEnd n₁ b₁ b₂ n₂ → Puts (lastField number) i d b₂ n₂
+last-put number d i h p₁ p₂ =
+    let n = length-last number in
+    let comma : Puts (codes ",") i d (set d i 44) (i + 1) = record { next = refl; leaves = set-written d i 44 (omega arith) } in
+    let m = length-append (codes ",") (decimal number) in
+    puts-then (puts-then comma p₁ (omega arith)) p₂ (omega (arith, length-decimal number))
+
+pub line-put : (start power : ℕ) (word : List ℕ) (shared : ℕ) (d : List ℕ) (i : ℕ) {b₁ b₂ b₃ b₄ b₅ : List ℕ} {n₁ n₂ n₃ n₄ n₅ : ℕ}
+    → Room (line start (length word) power word shared) i d → Puts (field start) i d b₁ n₁ → Puts (field (length word)) n₁ b₁ b₂ n₂
+    → Puts (field power) n₂ b₂ b₃ n₃ → Puts (hexadecimal word) n₃ b₃ b₄ n₄ → Puts (lastField shared) n₄ b₄ b₅ n₅
+    → Puts (line start (length word) power word shared) i d b₅ n₅
 unfolding line
-line-put start power word d i h p₁ p₂ p₃ p₄ p₅ =
-    let n = line-parts start power word in
+line-put start power word shared d i h p₁ p₂ p₃ p₄ p₅ =
+    let n = line-parts start power word shared in
     let two = field start ++ field (length word) in
     let three = two ++ field power in
     let m₂ = length-append (field start) (field (length word)) in
@@ -41,19 +54,40 @@ line-put start power word d i h p₁ p₂ p₃ p₄ p₅ =
 abbrev part : List ℕ → ℕ → ℕ → List ℕ
 part s i j = take (j - i) (drop i s)
 
--- one turn of a pass over the groups of s: the line of the group at i, and the lines that are left
-module _ {s : List ℕ} {i l e : ℕ} (g : NextGroup s i l e) where
+pub from-fits : {s : List ℕ} {i l e : ℕ} → GroupFrom s i l e → i ≤ length s → i + l ≤ length s
+from-fits {s} {i} {l} {e} g h = go (le-or-lt (length s) i)
+  where
+    go : (length s ≤ i) ⊎ (i < length s) → i + l ≤ length s
+    go (inl k) = omega (arith, g .none k)
+    go (inr k) = omega (arith, length-fits (g .group k), g .group k .fits)
+
+-- one turn of a pass over the groups of s: the line of the group at i, whose word is compared with the next one's, and the lines that are left
+module _ {s : List ℕ} {i l e l′ e′ c : ℕ} (g : NextGroup s i l e) (next : GroupFrom s (i + e * l) l′ e′)
+    (compared : c ≡ shared (take l (drop i s)) (take l′ (drop (i + e * l) s))) where
+  abbrev word : List ℕ
+  word = part s i (i + l)
+
   abbrev first : List ℕ
-  first = line i (length (part s i (i + l))) e (part s i (i + l))
+  first = line i (length word) e word c
 
   abbrev rest : List ℕ
   rest = lines s (suffixGroups s (i + e * l))
+
+  column : sharedColumn s (group i l e) (suffixGroups s (i + e * l)) ≡ c
+  column = go (le-or-lt (length s) (i + e * l)) ∙ sym compared
+    where
+      go : (length s ≤ i + e * l) ⊎ (i + e * l < length s)
+          → sharedColumn s (group i l e) (suffixGroups s (i + e * l)) ≡ shared (take l (drop i s)) (take l′ (drop (i + e * l) s))
+      go (inl h) =
+          let z : shared (take l (drop i s)) [] ≡ 0 = omega (arith, shared-right (take l (drop i s)) []) in
+          rw (next .none h) (ap (sharedColumn s (group i l e)) (suffix-end s (i + e * l) h) ∙ sym z)
+      go (inr h) = ap (sharedColumn s (group i l e)) (next .group h .group)
 
   lines-left : lines s (suffixGroups s i) ≡ first ++ rest
   lines-left =
       let n : i + l - i ≡ l = omega arith in
       let m : length (take l (drop i s)) ≡ l = length-take-le l (drop i s) (omega (arith, length-drop i s, length-fits g, g .fits)) in
-      ap (lines s) (g .group) ∙ rw (n, m)
+      ap (lines s) (g .group) ∙ ap (λ n. line i l e (take l (drop i s)) n ++ rest) column ∙ rw (n, m)
 
   pub line-room : {out d b : List ℕ} {n : ℕ} → Wrote out d b n (lines s (suffixGroups s i)) → Room first n b
   line-room w = omega (arith, wrote-room w, ap length lines-left, length-append first rest)
@@ -69,7 +103,7 @@ pub listing-parts : (s : List ℕ) → listingText s ≡ header ++ lines s (suff
 unfolding listingText
 listing-parts s = ap (λ gs. header ++ lines s gs) (groups-start s)
 
-pub listing-length : (s : List ℕ) → length (listingText s) ≡ 25 + length (lines s (suffixGroups s 0))
+pub listing-length : (s : List ℕ) → length (listingText s) ≡ 32 + length (lines s (suffixGroups s 0))
 listing-length s =
     let rest = lines s (suffixGroups s 0) in
     ap length (listing-parts s) ∙ length-append header rest ∙ ap (λ n. n + length rest) length-header
@@ -83,18 +117,15 @@ pub listing-put : (s d : List ℕ) {b b′ : List ℕ} {n m : ℕ} → Room (lis
 listing-put s d h p q = rw (listing-parts s) (puts-then p q (omega (arith, listing-length s, length-header)))
 
 -- the refusal line
-pub refusal-parts : (number : ℕ) → length (refusalText number) ≡ 8 + length (decimal number) + 2
+pub refusal-parts : (number : ℕ) → length (refusalText number) ≡ 7 + length (lastField number)
 unfolding refusalText
-refusal-parts number = simp length-append
+refusal-parts number = length-append (codes "refused") (lastField number)
 
 -- numbers of refusals have at most three digits
 pub refusal-room : (number : ℕ) → number < 1000 → length (refusalText number) ≤ 13
-refusal-room number h = omega (arith, refusal-parts number, length-decimal number, count-least number 2 (omega arith))
+refusal-room number h = omega (arith, refusal-parts number, length-last number, count-least number 2 (omega arith))
 
-pub refusal-put : (number : ℕ) (d : List ℕ) {b₁ b₂ b₃ : List ℕ} {n₁ n₂ n₃ : ℕ} → Room (refusalText number) 0 d
-    → Puts (codes "refused,") 0 d b₁ n₁ → Puts (decimal number) n₁ b₁ b₂ n₂ → Puts lineEnd n₂ b₂ b₃ n₃ → Puts (refusalText number) 0 d b₃ n₃
+pub refusal-put : (number : ℕ) (d : List ℕ) {b₁ b₂ : List ℕ} {n₁ n₂ : ℕ} → Room (refusalText number) 0 d
+    → Puts (codes "refused") 0 d b₁ n₁ → Puts (lastField number) n₁ b₁ b₂ n₂ → Puts (refusalText number) 0 d b₂ n₂
 unfolding refusalText
-refusal-put number d h p₁ p₂ p₃ =
-    let n = refusal-parts number in
-    let m = length-append (codes "refused,") (decimal number) in
-    puts-then (puts-then p₁ p₂ (omega arith)) p₃ (omega arith)
+refusal-put number d h p₁ p₂ = puts-then p₁ p₂ (omega (arith, refusal-parts number))

@@ -4,6 +4,7 @@ use mathlib.Core.Path.{_≡_}
 use Prim.Native.Nat.{ℕ, zero, suc}
 use lib.ListN.{length, take, drop}
 use Rattle.rows.specs.Row.{written}
+use Rattle.words.specs.Order.{shared}
 use Rattle.words.specs.Factors.{Group}
 use Rattle.words.specs.Tables.{groups}
 use Rattle.words.specs.Edit.{edited}
@@ -14,20 +15,33 @@ abbrev pub lineEnd : List ℕ
 lineEnd = codes "\r\n"
 
 unfoldable pub header : List ℕ
-header = codes "start,length,power,word" ++ lineEnd
+header = codes "start,length,power,word,shared" ++ lineEnd
 
 -- A number and the comma behind it.
 abbrev pub field : ℕ → List ℕ
 field n = decimal n ++ codes ","
 
--- The line of a group: start, factor length, power, and the factor's bytes.
-unfoldable pub line : ℕ → ℕ → ℕ → List ℕ → List ℕ
-line start size power word = field start ++ field size ++ field power ++ hexadecimal word ++ lineEnd
+-- The last number of a line, the comma before it and the line end behind it.
+abbrev pub lastField : ℕ → List ℕ
+lastField n = codes "," ++ decimal n ++ lineEnd
+
+-- The word of a group of factors of t.
+abbrev pub wordOf : List ℕ → Group → List ℕ
+wordOf t g = take (g .size) (drop (g .start) t)
+
+-- The column `shared` of a group that stands before these: the shared length of its word and the next group's word, 0 on the last line.
+abbrev pub sharedColumn : List ℕ → Group → List Group → ℕ
+sharedColumn t g [] = 0
+sharedColumn t g (h ∷ gs) = shared (wordOf t g) (wordOf t h)
+
+-- The line of a group: start, factor length, power, the factor's bytes, and the shared length.
+unfoldable pub line : ℕ → ℕ → ℕ → List ℕ → ℕ → List ℕ
+line start size power word shared = field start ++ field size ++ field power ++ hexadecimal word ++ lastField shared
 
 -- The lines of groups of factors of t, in order.
 abbrev pub lines : List ℕ → List Group → List ℕ
 lines t [] = []
-lines t (g ∷ gs) = line (g .start) (g .size) (g .power) (take (g .size) (drop (g .start) t)) ++ lines t gs
+lines t (g ∷ gs) = line (g .start) (g .size) (g .power) (wordOf t g) (sharedColumn t g gs) ++ lines t gs
 
 -- The listing of a pattern: the header, then a line per group.
 unfoldable pub listingText : List ℕ → List ℕ
@@ -39,7 +53,7 @@ editedText s from to b = listingText (edited s from to b)
 
 -- All that is printed where a refusal holds.
 unfoldable pub refusalText : ℕ → List ℕ
-refusalText number = codes "refused," ++ decimal number ++ lineEnd
+refusalText number = codes "refused" ++ lastField number
 
 -- What a program prints: the text where the number is 0, otherwise the refusal line.
 abbrev pub printed : ℕ → List ℕ → List ℕ

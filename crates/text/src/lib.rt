@@ -5,25 +5,29 @@ use decimal::write_decimal;
 use hex::pair_of;
 use refusals::MAX_PATTERN;
 use rows::write_bytes;
+use scan::Stretch;
+use scan::compare;
 use scan::next_group;
 ghost use mathlib.Core.Path.{_≡_};
-ghost use Prim.Native.Nat.{_<_, _≤_};
-ghost use lib.ListN.{length};
+ghost use Prim.Native.Nat.{_<_, _≤_, _+_};
+ghost use lib.ListN.{length, take, drop};
+ghost use Rattle.words.specs.Order.{shared};
 ghost use Rattle.words.specs.Tables.{suffixGroups};
 ghost use Rattle.text.specs.Hexadecimal.{hexadecimal};
-ghost use Rattle.text.specs.Listing.{header, field, line, lines, listingText, refusalText};
+ghost use Rattle.text.specs.Inner.{GroupFrom};
+ghost use Rattle.text.specs.Listing.{header, field, lastField, line, lines, listingText, refusalText};
 ghost use Rattle.rows.specs.Written.{Room, Puts};
 
 // The first line of every listing.
-pub const HEADER: [u8; 25] = *b"start,length,power,word\r\n";
+pub const HEADER: [u8; 32] = *b"start,length,power,word,shared\r\n";
 
-// No listing of an accepted pattern is longer: the header, and for each byte at most a line, which has three commas and the line end,
-// three numbers of at most five digits and a pair of digits.
-pub const MAX_LISTING: usize = 25 + 22 * MAX_PATTERN;
+// No listing of an accepted pattern is longer: the header, and for each byte at most a line, which has four commas and the line end,
+// four numbers of at most five digits and a pair of digits.
+pub const MAX_LISTING: usize = 32 + 28 * MAX_PATTERN;
 
 const LINE_END: [u8; 2] = *b"\r\n";
 
-const REFUSED: [u8; 8] = *b"refused,";
+const REFUSED: [u8; 7] = *b"refused";
 
 // Writes the bytes of a word in hexadecimal.
 fn write_word(word: &[u8], buffer: &mut [u8], at: usize) -> usize
@@ -52,39 +56,86 @@ fn write_field(n: usize, buffer: &mut [u8], at: usize) -> usize
     end + 1
 }
 
+// Writes the last number of a line, the comma before it and the line end behind it.
+fn write_last(n: usize, buffer: &mut [u8], at: usize) -> usize
+    requires { ⌜ Room (lastField n) at (now buffer) ⌝ }
+    ensures { λ r. ⌜ Puts (lastField n) at (now (buffer .entry)) (now (buffer .exit)) r ⌝ }
+{
+    buffer[at] = b',';
+    let end = write_decimal(n, buffer, at + 1);
+    write_bytes(&LINE_END, buffer, end)
+}
+
 // Writes the line of a group whose factors are this word.
-fn write_line(start: usize, power: usize, word: &[u8], buffer: &mut [u8], at: usize) -> usize
-    requires { ⌜ Room (line start (length (now word)) power (now word)) at (now buffer) ⌝ }
-    ensures { λ r. ⌜ Puts (line start (length (now (word .entry))) power (now (word .entry))) at (now (buffer .entry)) (now (buffer .exit)) r ⌝ }
+fn write_line(
+    start: usize,
+    power: usize,
+    word: &[u8],
+    shared: usize,
+    buffer: &mut [u8],
+    at: usize,
+) -> usize
+    requires { ⌜ Room (line start (length (now word)) power (now word) shared) at (now buffer) ⌝ }
+    ensures { λ r. ⌜ Puts (line start (length (now (word .entry))) power (now (word .entry)) shared) at (now (buffer .entry)) (now (buffer .exit)) r ⌝ }
 {
     let first = write_field(start, buffer, at);
     let second = write_field(word.len(), buffer, first);
     let third = write_field(power, buffer, second);
     let last = write_word(word, buffer, third);
-    write_bytes(&LINE_END, buffer, last)
+    write_last(shared, buffer, last)
 }
 
 // The length of that line.
-fn line_length(start: usize, power: usize, word: &[u8]) -> usize
-    requires { ⌜ length (line start (length (now word)) power (now word)) < 18446744073709551616 ⌝ }
-    ensures { λ r. ⌜ r ≡ length (line start (length (now (word .entry))) power (now (word .entry))) ⌝ }
+fn line_length(start: usize, power: usize, word: &[u8], shared: usize) -> usize
+    requires { ⌜ length (line start (length (now word)) power (now word) shared) < 18446744073709551616 ⌝ }
+    ensures { λ r. ⌜ r ≡ length (line start (length (now (word .entry))) power (now (word .entry)) shared) ⌝ }
 {
     let size = word.len();
-    digit_count(start) + digit_count(size) + digit_count(power) + 2 * size + 5
+    let digits = digit_count(start) + digit_count(size) + digit_count(power) + digit_count(shared);
+    digits + 2 * size + 6
 }
 
-// Writes the lines of a pattern's groups from a place on.
+// The group that starts at a place; at the end of the pattern, where none does, its length is 0.
+fn group_from(s: &[u8], i: usize) -> Stretch
+    ensures { λ r. ⌜ GroupFrom (now (s .entry)) i (r .length) (r .power) ⌝ }
+{
+    if i < s.len() {
+        return next_group(s, i);
+    }
+    Stretch {
+        length: 0,
+        power: 0,
+    }
+}
+
+// The shared length of two parts of a pattern, of m bytes from i on and of n bytes from j on.
+fn shared_length(s: &[u8], i: usize, m: usize, j: usize, n: usize) -> usize
+    requires { ⌜ (i + m ≤ length (now s)) × (j + n ≤ length (now s)) ⌝ }
+    ensures { λ r. ⌜ r ≡ shared (take m (drop i (now (s .entry)))) (take n (drop j (now (s .entry)))) ⌝ }
+{
+    let end = i + m;
+    let stop = j + n;
+    let c = compare(&s[i..end], &s[j..stop]);
+    c.shared
+}
+
+// Writes the lines of a pattern's groups from a place on. Each group is found once: as the next one, for its word,
+// and then carried over.
 fn write_lines(s: &[u8], from: usize, buffer: &mut [u8], at: usize) -> usize
     requires { ⌜ (from ≤ length (now s)) × Room (lines (now s) (suffixGroups (now s) from)) at (now buffer) ⌝ }
     ensures { λ r. ⌜ Puts (lines (now (s .entry)) (suffixGroups (now (s .entry)) from)) at (now (buffer .entry)) (now (buffer .exit)) r ⌝ }
 {
     let mut next = at;
     let mut start = from;
+    let mut g = group_from(s, from);
     while start < s.len() {
-        let g = next_group(s, start);
         let end = start + g.length;
-        next = write_line(start, g.power, &s[start..end], buffer, next);
-        start += g.power * g.length;
+        let place = start + g.power * g.length;
+        let h = group_from(s, place);
+        let shared = shared_length(s, start, g.length, place, h.length);
+        next = write_line(start, g.power, &s[start..end], shared, buffer, next);
+        start = place;
+        g = h;
     }
     next
 }
@@ -96,11 +147,15 @@ fn lines_length(s: &[u8], from: usize) -> usize
 {
     let mut total = 0;
     let mut i = from;
+    let mut g = group_from(s, from);
     while i < s.len() {
-        let g = next_group(s, i);
         let end = i + g.length;
-        total += line_length(i, g.power, &s[i..end]);
-        i += g.power * g.length;
+        let place = i + g.power * g.length;
+        let h = group_from(s, place);
+        let shared = shared_length(s, i, g.length, place, h.length);
+        total += line_length(i, g.power, &s[i..end], shared);
+        i = place;
+        g = h;
     }
     total
 }
@@ -135,7 +190,6 @@ pub fn write_refusal(number: usize, buffer: &mut [u8]) -> usize
     requires { ⌜ Room (refusalText number) 0 (now buffer) ⌝ }
     ensures { λ r. ⌜ Puts (refusalText number) 0 (now (buffer .entry)) (now (buffer .exit)) r ⌝ }
 {
-    let first = write_bytes(&REFUSED, buffer, 0);
-    let second = write_decimal(number, buffer, first);
-    write_bytes(&LINE_END, buffer, second)
+    let last = write_bytes(&REFUSED, buffer, 0);
+    write_last(number, buffer, last)
 }

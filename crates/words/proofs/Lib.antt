@@ -1,5 +1,6 @@
 pub mod Bounded
 pub mod Order
+pub mod Shared
 pub mod Lyndon
 pub mod Factors
 pub mod Groups

@@ -22,7 +22,7 @@ abbrev pub Period : List ℕ → ℕ → Type 0
 Period s d = (i : ℕ) → i + d < length s → getD s (i + d) 0 ≡ getD s i 0
 
 module _ (y : List ℕ) where
-  repeat-length : (k : ℕ) → length (join (replicate k y)) ≡ k * length y
+  pub repeat-length : (k : ℕ) → length (join (replicate k y)) ≡ k * length y
   repeat-length zero = omega arith
   repeat-length (suc k) = omega (arith, length-append y (join (replicate k y)), repeat-length k)
 

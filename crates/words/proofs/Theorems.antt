@@ -7,7 +7,7 @@ use mathlib.Core.Logic.{_↔_}
 use mathlib.Core.Path.{_≡_, refl}
 use Prim.Native.Nat.{ℕ, _+_, _-_, _*_, _^_, _≤_, _<_}
 use lib.ListN.{length, take, drop, getD}
-use Rattle.words.specs.Order.{Less, less, Lyndon, lyndon}
+use Rattle.words.specs.Order.{Less, less, smaller, shared, Lyndon, lyndon}
 use Rattle.words.specs.Factors.{Factorisation, factors, Group, groupsFrom}
 use Rattle.words.specs.Tables.{LyndonAt, longestAt, lyndonArray, lastFactor, lastFactors, longest, longestStarts, longestWord, groups}
 use Rattle.words.specs.Rotation.{rotation, leastRotation, UniqueLeast, Repeated, repeated}
@@ -16,6 +16,7 @@ use Rattle.words.specs.Edit.{Answer, edited, middleGroups, bits}
 use Rattle.words.proofs.Answer.{answer}
 use Rattle.words.specs.Demand.{Member, DemandTwo, DemandThree}
 use Rattle.words.proofs.Order.{less-true, true-less}
+use Rattle.words.proofs.Shared as shared-laws
 use Rattle.words.proofs.Lyndon.{lyndon-true, true-lyndon}
 use Rattle.words.proofs.Factors.{Within, within, factorisation, factors-falling, join-factors}
 use Rattle.words.proofs.Groups.{Packed, packed, packed-only}
@@ -37,8 +38,24 @@ use Rattle.words.proofs.Only as only-laws
 pub less-test : (x y : List ℕ) → Less x y ↔ (less x y ≡ true)
 less-test x y = (true-less x y, less-true x y)
 
+pub smaller-first : (a b : List ℕ) → Less a b ↔ (smaller a b ≡ 1)
+smaller-first = shared-laws.smaller-first
+
+pub smaller-second : (a b : List ℕ) → Less b a ↔ (smaller a b ≡ 2)
+smaller-second = shared-laws.smaller-second
+
+pub smaller-neither : (a b : List ℕ) → (a ≡ b) ↔ (smaller a b ≡ 0)
+smaller-neither = shared-laws.smaller-neither
+
 pub lyndon-test : (w : List ℕ) → Lyndon w ↔ (lyndon w ≡ true)
 lyndon-test w = (true-lyndon w, lyndon-true w)
+
+-- the shared length: the first k symbols are a common beginning exactly when k is at most that; it is less than the whole of the greater string
+pub shared-longest : (a b : List ℕ) (k : ℕ) → ((k ≤ length a) × (k ≤ length b) × (take k a ≡ take k b)) ↔ (k ≤ shared a b)
+shared-longest = shared-laws.shared-longest
+
+pub shared-shorter : (a b : List ℕ) → Less b a → shared a b < length a
+shared-shorter = shared-laws.shared-shorter
 
 -- factors: existence and uniqueness
 pub factorisation-unique : (s : List ℕ) (fs : List (List ℕ)) → Factorisation s fs ↔ (fs ≡ factors s)

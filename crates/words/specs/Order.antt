@@ -1,13 +1,13 @@
--- The order of strings, and Lyndon words. A string is a list of numbers; a byte is a number below 256.
+-- The order of strings, their common beginning, and Lyndon words. A string is a list of numbers; a byte is a number below 256.
 -- Each proposition stands beside its test, and proofs/Theorems proves that they agree.
-use mathlib.Core.Bool.{Bool, true, false, _&&_, _||_}
+use mathlib.Core.Bool.{Bool, true, false, cond, _&&_, _||_}
 use mathlib.Core.List.{List, [], _∷_}
 use mathlib.Core.Logic.{_⊎_}
 use mathlib.Core.Path.{_≡_}
-use Prim.Native.Nat.{ℕ, _<_}
+use Prim.Native.Nat.{ℕ, _<_, min}
 use lib.Dec.{ltb, eqb}
-use lib.ListN.{length, drop}
-use Rattle.words.specs.Bounded.{every}
+use lib.ListN.{length, take, drop}
+use Rattle.words.specs.Bounded.{every, largest}
 
 -- Smaller: the smaller symbol at the first difference, or a proper prefix of the longer string.
 abbrev pub Less : List ℕ → List ℕ → Type 0
@@ -33,6 +33,14 @@ same (x ∷ xs) [] = false
 same (x ∷ xs) (y ∷ ys) =
     let rest = same xs ys in
     eqb x y && rest
+
+-- Which of two strings is smaller, if any: 1 the first, 2 the second, 0 where neither is.
+unfoldable pub smaller : List ℕ → List ℕ → ℕ
+smaller a b = cond (less a b) 1 (cond (less b a) 2 0)
+
+-- Shared length, that of the common beginning: the largest k, at most the length of each, for which the first k symbols are the same.
+unfoldable pub shared : List ℕ → List ℕ → ℕ
+shared a b = largest (λ k. same (take k a) (take k b)) (min (length a) (length b))
 
 -- Lyndon word: nonempty, and strictly smaller than each of its nonempty proper suffixes.
 pub record Lyndon (w : List ℕ) : Type 0 where

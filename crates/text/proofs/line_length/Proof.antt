@@ -1,7 +1,7 @@
 -- `text::line_length` meets its contract: the lengths of the parts add up.
 use Rattle.text.proofs.Lengths.{line-counts}
-use borrow.Author.Needs.{needs}
 use native.Mathlib.Omega.{arith}
+use borrow.Author.Needs.{needs}
 use Rattle.text.proofs.line_length.Statement.{statement}
 use Rattle.text.proofs.line_length.Tie as tie
 use Rattle.text.proofs.line_length.Reads as reads
@@ -14,36 +14,44 @@ digit-count-requires c κs = search needs
 digit-count-requires-2 : tie.Need-digit-count-requires-2
 digit-count-requires-2 c κs = search needs
 
-add-result : tie.Need-add-result
-add-result c =
+add-digits : tie.Need-add-digits
+add-digits c =
     let a = c .before .before .before .args in
-    omega (arith, line-counts (a .start) (a .power) (a .word .now))
+    omega (arith, line-counts (a .start) (a .power) (a .word .now) (a .shared))
 
 digit-count-requires-3 : tie.Need-digit-count-requires-3
 digit-count-requires-3 c κs = search needs
 
-add-result-2 : tie.Need-add-result-2
-add-result-2 c =
+add-digits-2 : tie.Need-add-digits-2
+add-digits-2 c =
     let a = c .before .before .before .before .args in
-    omega (arith, line-counts (a .start) (a .power) (a .word .now))
+    omega (arith, line-counts (a .start) (a .power) (a .word .now) (a .shared))
+
+digit-count-requires-4 : tie.Need-digit-count-requires-4
+digit-count-requires-4 c κs = search needs
+
+add-digits-3 : tie.Need-add-digits-3
+add-digits-3 c =
+    let a = c .before .before .before .before .before .args in
+    omega (arith, line-counts (a .start) (a .power) (a .word .now) (a .shared))
 
 mul-result : tie.Need-mul-result
 mul-result c = search needs
 
-add-result-3 : tie.Need-add-result-3
-add-result-3 c =
-    let a = c .before .before .before .before .args in
-    omega (arith, line-counts (a .start) (a .power) (a .word .now))
+add-result : tie.Need-add-result
+add-result c =
+    let a = c .before .before .before .before .before .args in
+    omega (arith, line-counts (a .start) (a .power) (a .word .now) (a .shared))
 
-add-result-4 : tie.Need-add-result-4
-add-result-4 c =
-    let a = c .before .before .before .before .args in
-    omega (arith, line-counts (a .start) (a .power) (a .word .now))
+add-result-2 : tie.Need-add-result-2
+add-result-2 c =
+    let a = c .before .before .before .before .before .args in
+    omega (arith, line-counts (a .start) (a .power) (a .word .now) (a .shared))
 
 returns : tie.Need-returns
 returns c =
-    let a = c .before .before .before .before .args in
-    omega (arith, line-counts (a .start) (a .power) (a .word .now))
+    let a = c .before .before .before .before .before .args in
+    omega (arith, line-counts (a .start) (a .power) (a .word .now) (a .shared))
 
 pub line-length-spec : {M : Type 1} → statement M
 line-length-spec =
@@ -51,10 +59,12 @@ line-length-spec =
     (tie.spec
     digit-count-requires
     digit-count-requires-2
-    add-result
+    add-digits
     digit-count-requires-3
-    add-result-2
+    add-digits-2
+    digit-count-requires-4
+    add-digits-3
     mul-result
-    add-result-3
-    add-result-4
+    add-result
+    add-result-2
     returns)

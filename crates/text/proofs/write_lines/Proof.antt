@@ -2,74 +2,100 @@
 use mathlib.Core.Path.{ap}
 use Prim.Native.Nat.{_≤_, _-_}
 use lib.ListN.{length}
+use native.Mathlib.Omega.{arith}
 use Rattle.words.specs.Tables.{suffixGroups}
 use Rattle.rows.proofs.Wrote.{wrote-length}
+use Rattle.rows.proofs.Puts.{Putting, putting-none, putting-all}
 use Rattle.scan.proofs.Next.{suffix-end, group-long}
 use Rattle.scan.proofs.Pass.{length-fits}
+use Rattle.text.specs.Inner.{GroupFrom}
 use Rattle.text.specs.Listing.{lines}
-use Rattle.text.proofs.Lines.{line-room, line-turn}
-use Rattle.rows.proofs.Puts.{Putting, putting-none, putting-all}
+use Rattle.text.proofs.Lines.{from-fits, line-room, line-turn}
 use borrow.Author.Needs.{needs}
-use native.Mathlib.Omega.{arith}
 use Rattle.text.proofs.write_lines.Statement.{statement}
 use Rattle.text.proofs.write_lines.Tie as tie
 use Rattle.text.proofs.write_lines.Reads as reads
 use Rattle.text.proofs.write_lines.Lts as lts
-use Rattle.scan.proofs.next_group.Reads as next-group-reads
+use Rattle.text.proofs.group_from.Reads as group-from-reads
+use Rattle.text.proofs.shared_length.Reads as shared-length-reads
 use Rattle.text.proofs.write_line.Reads as write-line-reads
 
 abbrev Inv-loop : tie.InvT-loop
-Inv-loop s from buffer₀ at next₀ start₀ buffer next start = (start ≤ length s) × Putting (lines s (suffixGroups s from)) at buffer₀ buffer next (lines s (suffixGroups s start))
+Inv-loop s from buffer₀ at next₀ start₀ g₀ buffer next start g =
+    (start ≤ length s) × GroupFrom s start (g .length) (g .power)
+    × Putting (lines s (suffixGroups s from)) at buffer₀ buffer next (lines s (suffixGroups s start))
 
 abbrev μ-loop : tie.MeasureT-loop
-μ-loop s from buffer₀ at next₀ start₀ buffer next start = length s - start
+μ-loop s from buffer₀ at next₀ start₀ g₀ buffer next start g = length s - start
+
+group-from-requires : tie.Need-group-from-requires Inv-loop μ-loop
+group-from-requires c κs = search needs
 
 loop-holds : tie.Need-loop-holds Inv-loop μ-loop
 loop-holds c =
-    let a = c .before .before .args in
-    (search needs, putting-none (lines (a .s .now) (suffixGroups (a .s .now) (a .from))) (a .buffer .now) (a .at) (search needs))
-
-next-group-requires : tie.Need-next-group-requires Inv-loop μ-loop
-next-group-requires c κs = search needs
+    let a = c .before .before .before .args in
+    (search needs, c .group-from .ensures, putting-none (lines (a .s .now) (suffixGroups (a .s .now) (a .from))) (a .buffer .now) (a .at) (search needs))
 
 add-end : tie.Need-add-end Inv-loop μ-loop
-add-end c = omega (arith, length-fits (c .before .next-group .ensures))
+add-end c =
+    let g = c .before .before .loop .inv .1 .group (search needs) in
+    omega (arith, length-fits g, g .fits)
+
+mul-place : tie.Need-mul-place Inv-loop μ-loop
+mul-place c =
+    let g = c .before .before .before .loop .inv .1 .group (search needs) in
+    omega (arith, g .fits)
+
+add-place : tie.Need-add-place Inv-loop μ-loop
+add-place c =
+    let g = c .before .before .before .loop .inv .1 .group (search needs) in
+    omega (arith, g .fits)
+
+group-from-requires-2 : tie.Need-group-from-requires-2 Inv-loop μ-loop
+group-from-requires-2 c κs = search needs
+
+shared-length-requires : tie.Need-shared-length-requires Inv-loop μ-loop
+shared-length-requires c κs =
+    let g = c .before .before .before .before .loop .inv .1 .group (search needs) in
+    (omega (arith, length-fits g, g .fits), from-fits (c .group-from2 .ensures) (g .fits))
 
 sub-write-line : tie.Need-sub-write-line Inv-loop μ-loop
-sub-write-line c = search needs
+sub-write-line c = omega arith
 
 part-write-line-start : tie.Need-part-write-line-start Inv-loop μ-loop
-part-write-line-start c = search needs
+part-write-line-start c = omega arith
 
 part-write-line-end : tie.Need-part-write-line-end Inv-loop μ-loop
-part-write-line-end c = omega (arith, length-fits (c .before .next-group .ensures))
+part-write-line-end c =
+    let g = c .before .before .before .before .before .loop .inv .1 .group (search needs) in
+    omega (arith, length-fits g, g .fits)
 
 write-line-requires : tie.Need-write-line-requires Inv-loop μ-loop
-write-line-requires c κs = line-room (c .before .before .before .next-group .ensures) (c .before .before .before .before .before .loop .inv .1)
-
-mul-start : tie.Need-mul-start Inv-loop μ-loop
-mul-start c = search needs
-
-add-start : tie.Need-add-start Inv-loop μ-loop
-add-start c = search needs
+write-line-requires c κs =
+    let l = c .before .before .before .before .before .before .before in
+    let g = l .loop .inv .1 .group (search needs) in
+    line-room g (c .before .before .before .group-from2 .ensures) (c .before .before .shared-length .ensures) (l .loop .inv .2)
 
 loop-less : tie.Need-loop-less Inv-loop μ-loop
-loop-less c = omega (arith, group-long (c .before .before .before .before .before .before .before .next-group .ensures))
+loop-less c =
+    let g = c .before .before .before .before .before .before .before .before .before .before .loop .inv .1 .group (search needs) in
+    omega (arith, group-long g)
 
 loop-again : tie.Need-loop-again Inv-loop μ-loop
 loop-again c =
-    let g = c .before .before .before .before .before .before .before .next-group .ensures in
-    let l = c .before .before .before .before .before .before .before .before .before in
-    (search needs, line-turn g (l .loop .inv .1) (c .before .before .before .write-line .ensures))
+    let next = c .before .before .before .before .before .before .group-from2 .ensures in
+    let l = c .before .before .before .before .before .before .before .before .before .before in
+    let g = l .loop .inv .1 .group (search needs) in
+    (g .fits, next, line-turn g next (c .before .before .before .before .before .shared-length .ensures) (l .loop .inv .2) (c .before .before .write-line .ensures))
 
 same-length : tie.Need-same-length Inv-loop μ-loop
-same-length c = wrote-length (c .before .loop .inv .1)
+same-length c = wrote-length (c .before .loop .inv .2)
 
 returns : tie.Need-returns Inv-loop μ-loop
 returns c =
-    let a = c .before .before .before .before .args in
+    let a = c .before .before .before .before .before .args in
     let none = ap (lines (a .s .now)) (suffix-end (a .s .now) (c .before .loop .start) (search needs)) in
-    putting-all (omega arith) (rw none at (c .before .loop .inv .1))
+    putting-all (omega arith) (rw none at (c .before .loop .inv .2))
 
 pub write-lines-spec : {M : Type 1} → statement M
 write-lines-spec =
@@ -77,15 +103,17 @@ write-lines-spec =
     (tie.spec
     Inv-loop
     μ-loop
+    group-from-requires
     loop-holds
-    next-group-requires
     add-end
+    mul-place
+    add-place
+    group-from-requires-2
+    shared-length-requires
     sub-write-line
     part-write-line-start
     part-write-line-end
     write-line-requires
-    mul-start
-    add-start
     loop-less
     loop-again
     same-length
