@@ -24,8 +24,8 @@
 extern "C" {
 #endif
 
-/* The longest pattern, stored or edited, the longest block of an edit and the longest word of a tree, in bytes; the longest wanted Lyndon
- * array, in entries. */
+/* The longest pattern, stored or edited, and each string of a comparison, the longest block of an edit and the longest word of a tree, in
+ * bytes; the longest wanted Lyndon array, in entries. */
 #define LYNDON_MAX_PATTERN 16384
 #define LYNDON_MAX_BLOCK 256
 #define LYNDON_MAX_TREE 256
@@ -33,13 +33,13 @@ extern "C" {
 
 /* Rows of these lengths are enough for every pattern and every edit: the bytes of a listing and of a definite length block, the middle
  * groups of an edit. */
-#define LYNDON_MAX_LISTING (25 + 22 * LYNDON_MAX_PATTERN)     /* 360473 */
+#define LYNDON_MAX_LISTING (32 + 28 * LYNDON_MAX_PATTERN)     /* 458784 */
 #define LYNDON_MAX_DEFINITE_BLOCK (7 + LYNDON_MAX_PATTERN)    /* 16391 */
 #define LYNDON_MAX_MIDDLE (15 + LYNDON_MAX_BLOCK + 1)         /* 272 */
 
 /* The refusals. Of two that apply, the smaller number is answered, but 9 before 1, and 11 and 12 before 8. */
 #define LYNDON_ACCEPTED 0
-#define LYNDON_PATTERN_TOO_LONG 1   /* over LYNDON_MAX_PATTERN bytes */
+#define LYNDON_PATTERN_TOO_LONG 1   /* over LYNDON_MAX_PATTERN bytes; in a comparison, either string or both */
 #define LYNDON_PAST_END 2           /* a position past the end of the pattern, whose length itself is a position; or `from` > `to` */
 #define LYNDON_BLOCK_TOO_LONG 3     /* the block of an edit has over LYNDON_MAX_BLOCK bytes */
 #define LYNDON_EDITED_TOO_LONG 4    /* the edited pattern has over LYNDON_MAX_PATTERN bytes */
@@ -98,8 +98,13 @@ uint8_t lyndon_factor_prefix(const uint8_t *pattern, size_t pattern_len, const u
 uint8_t lyndon_factor_suffix(const uint8_t *pattern, size_t pattern_len, const uint16_t *lyndon_array, size_t lyndon_array_len,
                              uint16_t *groups, size_t groups_len, size_t start, size_t *count);
 
-/* The listing of the pattern's groups as CSV: `start,length,power,word`, then a line for each group with the factor's bytes in upper-case
- * hexadecimal; carriage return and line feed close each line, and no zero byte is added. Sets *count to the number of bytes.
+/* Sets *shared to the length of the longest string that both begin with, and *smaller to which of them is smaller: 1 the first, 2 the
+ * second, 0 where they are the same string. A proper prefix is smaller than the longer string. Refusal 1, if either is too long. */
+uint8_t lyndon_compare(const uint8_t *first, size_t first_len, const uint8_t *second, size_t second_len, size_t *shared, uint8_t *smaller);
+
+/* The listing of the pattern's groups as CSV: `start,length,power,word,shared`, then a line for each group, with the factor's bytes in
+ * upper-case hexadecimal and the length of the longest string that this factor and that of the next group both begin with, 0 on the last
+ * line; carriage return and line feed close each line, and no zero byte is added. Sets *count to the number of bytes.
  * Row: a byte for each of the listing's; LYNDON_MAX_LISTING are always enough. Refusals 1, 8. */
 uint8_t lyndon_write_listing(const uint8_t *pattern, size_t pattern_len, uint8_t *text, size_t text_len, size_t *count);
 

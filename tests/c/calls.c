@@ -69,6 +69,16 @@ bool tells_rotation(bytes w, uint8_t refusal, size_t start) {
     return unchanged(pattern, w.at) && number == refusal && got == start;
 }
 
+bool compares(bytes first, bytes second, told want) {
+    lent a = lend_copy(first.at, first.n), b = lend_copy(second.at, second.n);
+    told got = { 0xEE, { UNSET, UNSET } };
+    uint8_t smaller = 0xEE;
+    got.refusal = lyndon_compare(a.row, first.n, b.row, second.n, &got.number[0], &smaller);
+    got.number[1] = smaller;
+    bool kept = unchanged(a, first.at);
+    return unchanged(b, second.at) && kept && equal(got, want);
+}
+
 bool reads_block(bytes block, told want) {
     lent l = lend_copy(block.at, block.n);
     told got = { 0xEE, { UNSET, UNSET } };

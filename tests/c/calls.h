@@ -65,6 +65,9 @@ bool fills_any_row(filling call, bytes w, told want, result r);
 bool tells_lyndon(bytes w, uint8_t refusal, bool yes);
 bool tells_rotation(bytes w, uint8_t refusal, size_t start);
 
+/* The numbers are the length of the common beginning, and 1 or 2 for the smaller string, 0 for equal ones. */
+bool compares(bytes first, bytes second, told want);
+
 /* The numbers are the place and the count of the bytes within the block. */
 bool reads_block(bytes block, told want);
 

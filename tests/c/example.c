@@ -5,7 +5,8 @@
 #include <stdio.h>
 
 #define PATTERN LITERAL("acbabcabcabac")
-#define LISTING_TEXT "start,length,power,word\r\n0,3,1,616362\r\n3,3,2,616263\r\n9,4,1,61626163\r\n"
+#define HEADER "start,length,power,word,shared\r\n"
+#define LISTING_TEXT HEADER "0,3,1,616362,1\r\n3,3,2,616263,2\r\n9,4,1,61626163,0\r\n"
 
 static const uint16_t groups[] = { 0, 3, 1, 3, 3, 2, 9, 4, 1 };
 static const uint16_t array[] = { 3, 1, 1, 3, 2, 1, 3, 2, 1, 4, 1, 2, 1 };
@@ -35,8 +36,10 @@ static void one_row(void) {
         { LAST_FACTORS, LITERAL(""), { 0, { 0, 0 } }, NOTHING },
         { LONGEST_WORDS, LITERAL(""), { 0, { 0, 0 } }, NOTHING },
         { LONGEST_WORD, LITERAL(""), { 0, { 0, 0 } }, NOTHING },
-        { LISTING, LITERAL(""), { 0, { 25, 0 } }, { "start,length,power,word\r\n", 25 } },
-        { LISTING, LITERAL("\xFF\x0A"), { 0, { 45, 0 } }, { "start,length,power,word\r\n0,1,1,FF\r\n1,1,1,0A\r\n", 45 } },
+        { LISTING, LITERAL(""), { 0, { 32, 0 } }, { HEADER, 32 } },
+        { LISTING, LITERAL("abab"), { 0, { 46, 0 } }, { HEADER "0,2,2,6162,0\r\n", 46 } },
+        { LISTING, LITERAL("abcab"), { 0, { 62, 0 } }, { HEADER "0,3,1,616263,2\r\n3,2,1,6162,0\r\n", 62 } },
+        { LISTING, LITERAL("\xFF\x0A"), { 0, { 56, 0 } }, { HEADER "0,1,1,FF,0\r\n1,1,1,0A,0\r\n", 56 } },
         { BLOCK, LITERAL(""), { 0, { 3, 0 } }, { "#10", 3 } },
         { BLOCK, LITERAL("\xFF\x0A"), { 0, { 5, 0 } }, { "#12\xFF\x0A", 5 } },
     };

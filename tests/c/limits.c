@@ -11,7 +11,7 @@ void test_header(void) {
     part("the limits and the structs of the header");
     check(LYNDON_MAX_PATTERN == 16384 && LYNDON_MAX_BLOCK == 256 && LYNDON_MAX_TREE == 256 && LYNDON_MAX_WANTED == 256,
           "the limits");
-    check(LYNDON_MAX_LISTING == 360473 && LYNDON_MAX_DEFINITE_BLOCK == 16391 && LYNDON_MAX_MIDDLE == 272, "the rows that follow");
+    check(LYNDON_MAX_LISTING == 458784 && LYNDON_MAX_DEFINITE_BLOCK == 16391 && LYNDON_MAX_MIDDLE == 272, "the rows that follow");
     check(sizeof(lyndon_group) == 6, "the size of a group");
     check(offsetof(lyndon_group, start) == 0 && offsetof(lyndon_group, length) == 2 && offsetof(lyndon_group, power) == 4, "a group");
     check(sizeof(lyndon_edit_answer) == 48 && offsetof(lyndon_edit_answer, refusal) == 0, "the size of an answer");
@@ -26,7 +26,7 @@ static void equal_letters(void) {
     static uint8_t pattern[N];
     static uint16_t ones[N], places[N];
     static const uint16_t group[] = { 0, 1, N };
-    const char text[] = "start,length,power,word\r\n0,1,16384,61\r\n";
+    const char text[] = "start,length,power,word,shared\r\n0,1,16384,61,0\r\n";
     memset(pattern, 'a', N);
     for (size_t k = 0; k < N; k++) {
         ones[k] = 1;

@@ -14,5 +14,6 @@ int main(int argc, char **argv) {
     test_edits();
     test_blocks();
     test_wanted();
+    test_compare();
     return finish();
 }

@@ -4,6 +4,11 @@
 #include <stdio.h>
 #include <string.h>
 
+bytes word_of(uint8_t *at, size_t n, size_t number) {
+    for (size_t k = 0; k < n; k++) at[k] = number >> (n - 1 - k) & 1 ? 0x80 : 0x7F;
+    return (bytes){ at, n };
+}
+
 static bytes slice(bytes w, size_t from, size_t to) {
     return (bytes){ w.at + from, to - from };
 }
@@ -16,8 +21,18 @@ static bool smaller(bytes a, bytes b) {
     return a.n < b.n;
 }
 
+size_t naive_smaller(bytes first, bytes second) {
+    return smaller(first, second) ? 1 : smaller(second, first) ? 2 : 0;
+}
+
 static bool same(bytes a, bytes b) {
-    return !smaller(a, b) && !smaller(b, a);
+    return naive_smaller(a, b) == 0;
+}
+
+size_t naive_shared(bytes first, bytes second) {
+    size_t n = first.n < second.n ? first.n : second.n;
+    while (!same(slice(first, 0, n), slice(second, 0, n))) n--;
+    return n;
 }
 
 /* Nonempty, and smaller than each of its nonempty proper suffixes. */
@@ -129,13 +144,20 @@ facts naive_facts(bytes w) {
     return f;
 }
 
+/* The word of a group, which is three numbers. */
+static bytes word_at(bytes w, const uint16_t *group) {
+    return slice(w, group[0], group[0] + group[1]);
+}
+
 size_t naive_listing(bytes w, const facts *f, char *text) {
-    char *at = text + sprintf(text, "start,length,power,word\r\n");
+    char *at = text + sprintf(text, "start,length,power,word,shared\r\n");
     for (size_t k = 0; k < f->groups; k++) {
         const uint16_t *group = f->group + 3 * k;
+        bytes word = word_at(w, group);
+        size_t shared = k + 1 < f->groups ? naive_shared(word, word_at(w, group + 3)) : 0;
         at += sprintf(at, "%u,%u,%u,", group[0], group[1], group[2]);
-        for (size_t i = 0; i < group[1]; i++) at += sprintf(at, "%02X", w.at[group[0] + i]);
-        at += sprintf(at, "\r\n");
+        for (size_t i = 0; i < word.n; i++) at += sprintf(at, "%02X", word.at[i]);
+        at += sprintf(at, ",%zu\r\n", shared);
     }
     return (size_t)(at - text);
 }

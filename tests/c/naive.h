@@ -10,6 +10,16 @@
 /* The longest string that these functions take. */
 #define SHORT 64
 
+/* The string of length n, up to SHORT, whose letters are the bits of a number, written to `at`. They are 7F and 80, which a signed
+ * comparison would take the other way. */
+bytes word_of(uint8_t *at, size_t n, size_t number);
+
+/* The length of the longest string that both, of any length, begin with. */
+size_t naive_shared(bytes first, bytes second);
+
+/* Which of two strings of any length is smaller: 1 the first, 2 the second, 0 where they are the same. */
+size_t naive_smaller(bytes first, bytes second);
+
 /* What there is to say of a pattern. */
 typedef struct {
     size_t groups; /* number of groups; three numbers each */

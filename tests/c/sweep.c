@@ -9,12 +9,6 @@
 #define LONGEST_EDITED 5
 #define LONGEST_BLOCK 2
 
-/* The string of length n whose letters are the bits of a number. They are 7F and 80, which a signed comparison would take the other way. */
-static bytes word_of(uint8_t *at, size_t n, size_t number) {
-    for (size_t k = 0; k < n; k++) at[k] = number >> (n - 1 - k) & 1 ? 0x80 : 0x7F;
-    return (bytes){ at, n };
-}
-
 static bool fillings(bytes w, const facts *f) {
     char text[(LONGEST + 1) * (2 * LONGEST + 30)];
     size_t size = naive_listing(w, f, text);

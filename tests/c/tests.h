@@ -12,5 +12,6 @@ void test_words(void);
 void test_blocks(void);
 void test_edits(void);
 void test_wanted(void);
+void test_compare(void);
 
 #endif

@@ -27,8 +27,7 @@ static void short_strings(void) {
     for (size_t n = 0; n <= LONGEST; n++) {
         for (size_t number = 0; number < (size_t)1 << n; number++) {
             uint8_t at[LONGEST];
-            for (size_t k = 0; k < n; k++) at[k] = number >> (n - 1 - k) & 1 ? 0x80 : 0x7F;
-            facts f = naive_facts((bytes){ at, n });
+            facts f = naive_facts(word_of(at, n, number));
             check(realised((table){ f.array, n }), "the table of string %zu of length %zu", number, n);
         }
     }

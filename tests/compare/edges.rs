@@ -1,6 +1,7 @@
 //! Where each refusal begins, with the number written out.
 use crate::block_oracle;
 use crate::calls::{self, Side};
+use crate::comparisons;
 use crate::edits;
 use crate::engine::{self, Given, Group};
 use crate::families::{A, B};
@@ -18,7 +19,7 @@ fn row() -> Vec<u16> {
 
 /// A buffer for every listing.
 fn text() -> Vec<u8> {
-    vec![0; 25 + 22 * LIMIT]
+    vec![0; 32 + 28 * LIMIT]
 }
 
 fn says(t: &mut Tally, what: &str, n: usize, got: u8, want: u8) {
@@ -52,6 +53,8 @@ fn pattern(t: &mut Tally, w: &[u8], f: &Facts, want: u8) {
     says(t, "write_listing", n, engine::write_listing(w, &mut text()).0, want);
     says(t, "write_block", n, engine::write_block(w, &mut text()).0, want);
     says(t, "read_block", n, engine::read_block(&block_oracle::written(w)).0, want);
+    says(t, "compare, first", n, engine::compare(w, &w[..3]).0, want);
+    says(t, "compare, second", n, engine::compare(&w[..3], w).0, want);
     says(t, "is_lyndon", n, engine::is_lyndon(w).0, want);
     says(t, "least_rotation", n, engine::least_rotation(w).0, want);
     says(t, "factor_prefix", n, engine::factor_prefix(w, &f.last, 3, &mut row()).0, want);
@@ -61,6 +64,32 @@ fn pattern(t: &mut Tally, w: &[u8], f: &Facts, want: u8) {
     says(t, "longest_word", n, number, 0);
     t.check((size[0] == 0) == (want == 1), || format!("longest_word of {n} bytes has {}", size[0]));
     edit(t, f, &whole(w, f, 0, 600, &[]), want);
+}
+
+/// 1, of two strings: either is enough, whether they are alike or differ at once.
+fn pairs(t: &mut Tally, long: &[u8]) {
+    let turned: Vec<u8> = long.iter().map(|b| b ^ 0xFF).collect();
+    for (a, b, want) in [
+        (0, 0, 0),
+        (0, LIMIT, 0),
+        (1, LIMIT, 0),
+        (LIMIT - 1, LIMIT, 0),
+        (LIMIT, LIMIT, 0),
+        (0, LIMIT + 1, 1),
+        (1, LIMIT + 1, 1),
+        (LIMIT, LIMIT + 1, 1),
+        (LIMIT + 1, LIMIT + 1, 1),
+        (3, 65_536, 1),
+        (LIMIT, 65_536 + 3, 1),
+        (65_536 + 3, 65_536 + 3, 1),
+    ] {
+        for second in [long, &turned] {
+            let (a, b) = (&long[..a], &second[..b]);
+            let got = [engine::compare(a, b).0, engine::compare(b, a).0];
+            t.equal(&got, &[want; 2], || format!("compare of {} and {} bytes", a.len(), b.len()));
+            comparisons::pair(t, a, b);
+        }
+    }
 }
 
 /// 2: the length itself is a position, the next one is none.
@@ -162,7 +191,7 @@ fn rows(t: &mut Tally) {
     say("last_factors", 13, &|row| engine::last_factors(w, row).0);
     say("longest_words", 1, &|row| engine::longest_words(w, row).0);
     say("longest_word", 4, &|row| engine::longest_word(w, &mut vec![0; row.len()]).0);
-    say("write_listing", 69, &|row| engine::write_listing(w, &mut vec![0; row.len()]).0);
+    say("write_listing", 82, &|row| engine::write_listing(w, &mut vec![0; row.len()]).0);
     say("write_block", 17, &|row| engine::write_block(w, &mut vec![0; row.len()]).0);
     say("realise_array", 6, &|row| engine::realise_array(&[6, 1, 4, 1, 2, 1], &mut vec![0; row.len()]).0);
     say("tree", 18, &|row| engine::tree(b"aabab", row).0);
@@ -219,6 +248,7 @@ pub fn all(t: &mut Tally, r: &mut Random) {
     {
         pattern(t, &long[..n], &(FAST.facts)(&long[..tabled]), want);
     }
+    pairs(t, &long);
     for n in [0, 1, 13, LIMIT] {
         positions(t, &long[..n]);
     }

@@ -60,6 +60,7 @@ unsafe extern "C" {
                             groups: *mut u16, groups_len: usize, end: usize, count: *mut usize) -> u8;
     fn lyndon_factor_suffix(pattern: *const u8, pattern_len: usize, table: *const u16, table_len: usize,
                             groups: *mut u16, groups_len: usize, start: usize, count: *mut usize) -> u8;
+    fn lyndon_compare(first: *const u8, first_len: usize, second: *const u8, second_len: usize, shared: *mut usize, smaller: *mut u8) -> u8;
     fn lyndon_write_listing(pattern: *const u8, pattern_len: usize, text: *mut u8, text_len: usize, count: *mut usize) -> u8;
     fn lyndon_read_block(bytes: *const u8, bytes_len: usize, place: *mut usize, count: *mut usize) -> u8;
     fn lyndon_write_block(pattern: *const u8, pattern_len: usize, bytes: *mut u8, bytes_len: usize, count: *mut usize) -> u8;
@@ -120,6 +121,13 @@ pub fn least_rotation(pattern: &[u8]) -> Answer {
     let mut start = UNSET;
     let refusal = unsafe { lyndon_least_rotation(pattern.as_ptr(), pattern.len(), &mut start) };
     (refusal, [start, 0])
+}
+
+/// Length of the common beginning, then 1 or 2 for the smaller string, 0 for equal ones.
+pub fn compare(first: &[u8], second: &[u8]) -> Answer {
+    let (mut shared, mut smaller) = (UNSET, 0xEE);
+    let refusal = unsafe { lyndon_compare(first.as_ptr(), first.len(), second.as_ptr(), second.len(), &mut shared, &mut smaller) };
+    (refusal, [shared, usize::from(smaller)])
 }
 
 pub fn write_listing(pattern: &[u8], text: &mut [u8]) -> Answer {

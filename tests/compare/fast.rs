@@ -1,6 +1,7 @@
 //! The same answers for long words, by other ways than the definitions. Each is compared with the naive one in every run.
 use crate::engine::Group;
 use crate::right::{Edit, Facts, Right, TREE_LIMIT, edited};
+use std::cmp::Ordering;
 
 pub const FAST: Right = Right { facts, groups, listing, edit };
 
@@ -121,19 +122,39 @@ fn tree(w: &[u8], start: usize, nodes: &mut Vec<u16>) {
     }
 }
 
-/// The same lines, each put together byte by byte.
+/// The place of the first difference, and the order of slices.
+pub fn compared(a: &[u8], b: &[u8]) -> [usize; 2] {
+    let shared = a.iter().zip(b).position(|(x, y)| x != y).unwrap_or(a.len().min(b.len()));
+    let smaller = match a.cmp(b) {
+        Ordering::Equal => 0,
+        Ordering::Less => 1,
+        Ordering::Greater => 2,
+    };
+    [shared, smaller]
+}
+
+/// The same lines, each put together byte by byte. A line is closed by its last number once the next group is known.
 fn listing(w: &[u8]) -> Vec<u8> {
-    let mut text = b"start,length,power,word\r\n".to_vec();
+    let mut text = b"start,length,power,word,shared\r\n".to_vec();
+    let mut before: &[u8] = &[];
+    let close = |text: &mut Vec<u8>, shared: usize| text.extend([b",", shared.to_string().as_bytes(), b"\r\n"].concat());
     duval(w, |start, length, power| {
+        let word = &w[start..start + length];
+        if !before.is_empty() {
+            close(&mut text, compared(before, word)[0]);
+        }
         for number in [start, length, power] {
             text.extend(number.to_string().bytes());
             text.push(b',');
         }
-        for byte in &w[start..start + length] {
+        for byte in word {
             text.extend([byte >> 4, byte & 15].map(|digit| b"0123456789ABCDEF"[usize::from(digit)]));
         }
-        text.extend([13, 10]);
+        before = word;
     });
+    if !before.is_empty() {
+        close(&mut text, 0);
+    }
     text
 }
 

@@ -2,9 +2,9 @@
 use crate::calls::{self, Side};
 use crate::edits;
 use crate::engine::Given;
-use crate::families::families;
+use crate::families::{A, B, families};
 use crate::fast::FAST;
-use crate::right::Facts;
+use crate::right::{Facts, LIMIT};
 use crate::tally::{Random, Tally};
 
 fn stretches(r: &mut Random, n: usize) -> Vec<(usize, usize)> {
@@ -66,6 +66,23 @@ fn wrong_entry(t: &mut Tally, r: &mut Random, w: &[u8], f: &Facts) {
         let given = |array, last| Given { pattern: w, array, last, from: n / 2, to: n / 2 + 1, block: &[] };
         edits::compare(t, &FAST, f, &given(&array, &f.last));
         edits::compare(t, &FAST, f, &given(&f.array, &last));
+    }
+}
+
+/// Words of half the longest pattern: two that differ in their last byte, and one whose last byte the next lacks. No neighbours share more.
+pub fn halves(t: &mut Tally) {
+    let most = LIMIT / 2 - 1;
+    let equal = vec![A; most];
+    let differ = [&equal[..], &[B + 1], &equal, &[B]].concat();
+    let next = [&equal[1..], &[B]].concat();
+    let shorter = [&next[..], &[B], &next].concat();
+    for w in [differ, shorter] {
+        let f = (FAST.facts)(&w);
+        let lengths: Vec<u16> = f.groups.iter().map(|g| g.length).collect();
+        t.equal(&lengths, &vec![most as u16 + 1, (w.len() - most - 1) as u16], || "the lengths of two halves".into());
+        let line = format!(",{most}\r\n{},", most + 1);
+        t.check(String::from_utf8_lossy(&f.listing).contains(&line), || format!("no line of the halves shares {most} bytes"));
+        calls::word(t, &FAST, &w, &f, &[most, most + 1, most + 2]);
     }
 }
 

@@ -4,6 +4,7 @@
 mod block_oracle;
 mod blocks;
 mod calls;
+mod comparisons;
 mod edges;
 mod edits;
 mod engine;
@@ -36,14 +37,8 @@ fn seed() -> Option<u64> {
     std::env::args().nth(1).map_or(Some(SEED), |word| word.parse().ok())
 }
 
-fn main() -> ExitCode {
-    let Some(seed) = seed() else {
-        eprintln!("the seed is a decimal number");
-        return ExitCode::from(2);
-    };
-    println!("seed {seed}");
-    let r = &mut Random::new(seed);
-    let mut run = Run::default();
+/// All calls on words, and edits.
+fn words(run: &mut Run, r: &mut Random) {
     run.part("the trainer's sheet, P1 to P14", sheet::all);
     run.part("every word over two letters to length 10", |t| short::words(t, TWO, 10));
     run.part("every word over three letters to length 6", |t| short::words(t, THREE, 6));
@@ -56,10 +51,15 @@ fn main() -> ExitCode {
     for n in [4097, LIMIT - 1, LIMIT, LIMIT + 1] {
         run.part(&format!("ten families of {n} bytes"), |t| long::words(t, r, n));
     }
+    run.part("halves of the longest pattern that share all but a byte", long::halves);
     run.part("every two-letter word to length 5 repeated to 48 bytes, a byte changed, added or taken away", |t| loops::short(t, TWO, 5));
     run.part("words repeated to about the longest pattern by every divisor, a byte changed, added or taken away", |t| {
         loops::long(t, r, TWO)
     });
+}
+
+/// Lent and wanted tables, two strings, and the refusals.
+fn tables_and_refusals(run: &mut Run, r: &mut Random) {
     run.part("tables with one entry changed or missing, two letters to length 6", |t| tables::wrong(t, TWO, 6));
     run.part("tables with one entry changed or missing, three letters to length 4", |t| tables::wrong(t, THREE, 4));
     run.part("every wanted table to length 6, entries to one past the end and 65535, held to the tables of all patterns", |t| {
@@ -69,8 +69,17 @@ fn main() -> ExitCode {
     run.part("wanted tables of up to 257 entries drawn so that they nest, as they are and with an entry changed", |t| {
         wanted::drawn(t, r, 2_000)
     });
+    run.part("every two words over two letters to length 7, compared", |t| comparisons::short(t, TWO, 7));
+    run.part("every two words over three letters to length 5, compared", |t| comparisons::short(t, THREE, 5));
+    run.part("words to 70 bytes that differ at each place, compared", |t| comparisons::places(t, r));
+    run.part("random pairs with a common beginning of any length, compared", |t| comparisons::random(t, r, 4_000));
+    run.part("ten families of about the longest length, compared with beginnings and with a byte changed", |t| comparisons::long(t, r));
     run.part("the edge of each refusal", |t| edges::all(t, r));
     run.part("two and more refusals at once", |t| orders::all(t, r));
+}
+
+/// Definite length blocks and the edited listing.
+fn texts(run: &mut Run, r: &mut Random) {
     run.part("definite length blocks: every string over seven letters to length 5, to 6 behind a hash mark", blocks::short);
     run.part("definite length blocks with every header, cut at every place and damaged", |t| blocks::headers(t, r));
     run.part("random definite length blocks, whole, cut and damaged", |t| blocks::random(t, r, 4_000));
@@ -83,5 +92,18 @@ fn main() -> ExitCode {
     for n in [LIMIT - 1, LIMIT] {
         run.part(&format!("the edited listing of ten families of {n} bytes"), |t| listed::words(t, r, n));
     }
+}
+
+fn main() -> ExitCode {
+    let Some(seed) = seed() else {
+        eprintln!("the seed is a decimal number");
+        return ExitCode::from(2);
+    };
+    println!("seed {seed}");
+    let r = &mut Random::new(seed);
+    let mut run = Run::default();
+    words(&mut run, r);
+    tables_and_refusals(&mut run, r);
+    texts(&mut run, r);
     if run.finish() { ExitCode::SUCCESS } else { ExitCode::FAILURE }
 }

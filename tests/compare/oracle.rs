@@ -17,6 +17,16 @@ fn smaller(a: &[u8], b: &[u8]) -> bool {
     a.len() < b.len()
 }
 
+/// The length of the longest string that both begin with.
+fn shared(a: &[u8], b: &[u8]) -> usize {
+    (0..=a.len().min(b.len())).rev().find(|&k| a[..k] == b[..k]).unwrap()
+}
+
+/// The length of the common beginning, and which is smaller: 1 the first, 2 the second, 0 where neither is.
+pub fn compared(a: &[u8], b: &[u8]) -> [usize; 2] {
+    [shared(a, b), usize::from(smaller(a, b)) + 2 * usize::from(smaller(b, a))]
+}
+
 /// Nonempty, and smaller than each of its nonempty proper suffixes.
 pub fn is_lyndon(w: &[u8]) -> bool {
     !w.is_empty() && (1..w.len()).all(|k| smaller(w, &w[k..]))
@@ -139,13 +149,17 @@ fn tree(w: &[u8], start: usize, nodes: &mut Vec<u16>) {
     }
 }
 
-/// A line of names, then one for each group: start, length, power, and the factor's bytes in hexadecimal.
+/// A line of names, then one for each group: start, length, power, the factor's bytes in hexadecimal, and the length of the common beginning of this
+/// factor and the next group's, 0 where there is none.
 fn listing(w: &[u8]) -> Vec<u8> {
-    let mut text = String::from("start,length,power,word\r\n");
-    for Group { start, length, power } in groups_of(w) {
-        let word = &w[usize::from(start)..usize::from(start + length)];
-        let digits: String = word.iter().map(|byte| format!("{byte:02X}")).collect();
-        text += &format!("{start},{length},{power},{digits}\r\n");
+    let mut text = String::from("start,length,power,word,shared\r\n");
+    let groups = groups_of(w);
+    let word = |g: &Group| &w[usize::from(g.start)..usize::from(g.start + g.length)];
+    for (k, g) in groups.iter().enumerate() {
+        let Group { start, length, power } = g;
+        let digits: String = word(g).iter().map(|byte| format!("{byte:02X}")).collect();
+        let shared = groups.get(k + 1).map_or(0, |next| shared(word(g), word(next)));
+        text += &format!("{start},{length},{power},{digits},{shared}\r\n");
     }
     text.into_bytes()
 }

@@ -73,6 +73,11 @@ pub fn pattern_holds(n: usize) -> Holds {
     Holds::default().and(1, n > LIMIT)
 }
 
+/// Two strings compared.
+pub fn compare_holds(first: usize, second: usize) -> Holds {
+    Holds::default().and(1, first > LIMIT || second > LIMIT)
+}
+
 /// The phase mark of a pattern, which may be a shorter word repeated.
 pub fn mark_holds(n: usize, repeated: bool) -> Holds {
     pattern_holds(n).and(10, repeated)

@@ -66,7 +66,7 @@ fn tables(t: &mut Tally) {
     let groups = (NAIVE.groups)(S);
     let group = |start, length, power| Group { start, length, power };
     t.equal(&groups, &vec![group(0, 3, 1), group(3, 3, 2), group(9, 4, 1)], || "the groups of S".into());
-    let listing = b"start,length,power,word\r\n0,3,1,616362\r\n3,3,2,616263\r\n9,4,1,61626163\r\n";
+    let listing = b"start,length,power,word,shared\r\n0,3,1,616362,1\r\n3,3,2,616263,2\r\n9,4,1,61626163,0\r\n";
     t.equal(&(NAIVE.facts)(S).listing, &listing.to_vec(), || "the listing of S".into());
     for w in [&[0, 1, 1, 0, 2, 3, 1, 2, 2][..], b"ababbababbabb"] {
         let f = short::facts(t, w);

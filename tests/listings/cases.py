@@ -6,7 +6,7 @@ import subprocess
 import sys
 import tempfile
 
-HEADER = b"start,length,power,word\r\n"
+HEADER = b"start,length,power,word,shared\r\n"
 EDIT = b"from,to\r\n"
 SHEET = b"acbabcabcabac"
 LIMIT = 16384
@@ -36,13 +36,19 @@ def factors(s):
     return out
 
 
+def shared(a, b):
+    """The length of the longest string that both begin with."""
+    return max(k for k in range(min(len(a), len(b)) + 1) if a[:k] == b[:k])
+
+
 def lines(fs):
     text, i, at = b"", 0, 0
     while i < len(fs):
         j = i
         while j < len(fs) and fs[j] == fs[i]:
             j += 1
-        text += b"%d,%d,%d,%s\r\n" % (at, len(fs[i]), j - i, fs[i].hex().upper().encode())
+        common = shared(fs[i], fs[j]) if j < len(fs) else 0
+        text += b"%d,%d,%d,%s,%d\r\n" % (at, len(fs[i]), j - i, fs[i].hex().upper().encode(), common)
         at += (j - i) * len(fs[i])
         i = j
     return text
@@ -88,10 +94,18 @@ def listing_cases():
     full = bytes(rnd.randrange(256) for _ in range(LIMIT))
     pairs = [bytes([x, y]) for x in range(255, -1, -1) for y in range(255, x, -1)]
     yield "the worked example", SHEET, listing(SHEET)
-    yield "the worked example, literally", SHEET, HEADER + b"0,3,1,616362\r\n3,3,2,616263\r\n9,4,1,61626163\r\n"
+    for name, s, want in [("the worked example", SHEET, b"0,3,1,616362,1\r\n3,3,2,616263,2\r\n9,4,1,61626163,0\r\n"),
+                          ("empty", b"", b""),
+                          ("one group", b"abab", b"0,2,2,6162,0\r\n"),
+                          ("the next word a prefix", b"abcab", b"0,3,1,616263,2\r\n3,2,1,6162,0\r\n"),
+                          ("each word a prefix of the one before", b"abacaba", b"0,4,1,61626163,2\r\n4,2,1,6162,1\r\n6,1,1,61,0\r\n"),
+                          ("nothing shared", b"cba", b"0,1,1,63,0\r\n1,1,1,62,0\r\n2,1,1,61,0\r\n"),
+                          ("a power between", b"acababaa", b"0,2,1,6163,1\r\n2,2,2,6162,1\r\n6,1,2,61,0\r\n")]:
+        yield name + ", literally", s, HEADER + want
     for name, s in [("empty", b""), ("4,097 bytes", full[:4097]), ("the longest", full), ("one byte too many", full + b"a"), ("65,549 bytes", bytes(65549)),
                     ("high bytes", bytes([0x7F, 0x80, 0x80, 0x7F, 255, 0, 255])), ("many groups", bytes(255 - i // 64 for i in range(16320))),
-                    ("8,192 groups of two bytes", b"".join(pairs[:8192])), ("one group", b"a" * LIMIT), ("a line feed counts", b"ab\n")]:
+                    ("8,192 groups of two bytes", b"".join(pairs[:8192])), ("one group", b"a" * LIMIT), ("a line feed counts", b"ab\n"),
+                    ("two digits shared", b"a" * 12 + b"c" + b"a" * 12 + b"b"), ("the most shared", b"a" * 8191 + b"c" + b"a" * 8191 + b"b")]:
         yield name, s, listing(s)
     for i in range(100):
         s = bytes(rnd.choice(b"ab\x80") for _ in range(rnd.randrange(30)))
@@ -101,14 +115,20 @@ def listing_cases():
 def edited_cases():
     rnd = random.Random(6)
     full = bytes(rnd.randrange(256) for _ in range(LIMIT))
-    for name, s, b, row, want in [("joined at both seams", b"aa", b"a", b"1,1", b"0,1,3,61\r\n"),
-                                  ("joined at both seams, longer words", SHEET, b"abc", b"6,6", b"0,3,1,616362\r\n3,3,3,616263\r\n12,4,1,61626163\r\n"),
-                                  ("joined at the first seam", b"aba", b"ab", b"2,2", b"0,2,2,6162\r\n4,1,1,61\r\n"),
-                                  ("joined at the second seam", b"bab", b"ab", b"1,1", b"0,1,1,62\r\n1,2,2,6162\r\n"),
-                                  ("joined through an empty middle", b"abaaab", b"", b"2,4", b"0,2,2,6162\r\n"),
-                                  ("joined where nothing changes", b"aa", b"", b"1,1", b"0,1,2,61\r\n"),
-                                  ("different words of equal length at both seams", b"ca", b"b", b"1,1", b"0,1,1,63\r\n1,1,1,62\r\n2,1,1,61\r\n"),
-                                  ("16,384 equal words over both seams", b"a" * 16128, b"a" * 256, b"12000,12000", b"0,1,16384,61\r\n")]:
+    for name, s, b, row, want in [("joined at both seams", b"aa", b"a", b"1,1", b"0,1,3,61,0\r\n"),
+                                  ("joined at both seams, longer words", SHEET, b"abc", b"6,6",
+                                   b"0,3,1,616362,1\r\n3,3,3,616263,2\r\n12,4,1,61626163,0\r\n"),
+                                  ("joined at the first seam", b"aba", b"ab", b"2,2", b"0,2,2,6162,1\r\n4,1,1,61,0\r\n"),
+                                  ("joined at the second seam", b"bab", b"ab", b"1,1", b"0,1,1,62,0\r\n1,2,2,6162,0\r\n"),
+                                  ("joined through an empty middle", b"abaaab", b"", b"2,4", b"0,2,2,6162,0\r\n"),
+                                  ("joined where nothing changes", b"aa", b"", b"1,1", b"0,1,2,61,0\r\n"),
+                                  ("different words of equal length at both seams", b"ca", b"b", b"1,1",
+                                   b"0,1,1,63,0\r\n1,1,1,62,0\r\n2,1,1,61,0\r\n"),
+                                  ("nothing left", b"ab", b"", b"0,2", b""),
+                                  ("the next word a prefix", b"abab", b"c", b"2,2", b"0,3,1,616263,2\r\n3,2,1,6162,0\r\n"),
+                                  ("shared over both seams", b"abba", b"ab", b"3,3", b"0,3,1,616262,2\r\n3,2,1,6162,1\r\n5,1,1,61,0\r\n"),
+                                  ("shared through an empty middle", b"abbaab", b"", b"3,4", b"0,3,1,616262,2\r\n3,2,1,6162,0\r\n"),
+                                  ("16,384 equal words over both seams", b"a" * 16128, b"a" * 256, b"12000,12000", b"0,1,16384,61,0\r\n")]:
         yield name, {"pattern.bin": s, "block.bin": b, "edit.csv": EDIT + row + b"\r\n"}, HEADER + want
     for name, s, b, row in [("P5", SHEET, b"b", b"5,6"), ("P6", SHEET, b"a", b"11,11"), ("P13, leading zeros", b"aba", b"c", b"00003,3"),
                             ("emptied", SHEET, b"", b"0,13"), ("4,097 bytes", full[:4097], b"b", b"4096,4097"),

@@ -19,7 +19,7 @@ static struct {
     lyndon_group middle[LYNDON_MAX_MIDDLE];
     size_t n, block_n, definite_n, from, to, size, count;
     bool yes;
-    uint8_t refusal;
+    uint8_t refusal, smaller;
     lyndon_edit_answer answer;
 } g;
 
@@ -69,6 +69,11 @@ static void run_suffix(void) {
     g.refusal = lyndon_factor_suffix(g.pattern, g.n, g.array, g.n, g.row, 3 * N, g.from, &g.count);
 }
 
+/* With itself, where the stretch starts at the front; with its second half, its last quarter and the empty string. */
+static void run_compare(void) {
+    g.refusal = lyndon_compare(g.pattern, g.n, g.pattern + g.from, g.n - g.from, &g.size, &g.smaller);
+}
+
 static void run_listing(void) {
     g.refusal = lyndon_write_listing(g.pattern, g.n, g.text, LYNDON_MAX_LISTING, &g.count);
 }
@@ -112,6 +117,7 @@ static const row rows[] = {
     { "lyndon_tree", run_tree, LYNDON_MAX_TREE, 32768, 24576 },
     { "lyndon_factor_prefix", run_prefix, N, 1024, 0 },
     { "lyndon_factor_suffix", run_suffix, N, 1024, 0 },
+    { "lyndon_compare", run_compare, N, 1024, 0 },
     { "lyndon_write_listing", run_listing, N, 1024, 0 },
     { "lyndon_read_block", run_read_block, N, 1024, 0 },
     { "lyndon_write_block", run_write_block, N, 1024, 0 },

@@ -1,0 +1,133 @@
+//! Two strings compared: the length of their common beginning, and which is smaller. Each pair goes both ways round.
+use crate::engine;
+use crate::families::families;
+use crate::fast;
+use crate::lent::Lent;
+use crate::oracle;
+use crate::right::{LIMIT, compare_holds};
+use crate::short::{every_word, random_of};
+use crate::tally::{Random, Tally, show};
+
+/// Two strings, their common beginning, and which is smaller.
+type Example = (&'static [u8], &'static [u8], [usize; 2]);
+#[rustfmt::skip]
+const EXAMPLES: [Example; 16] = [
+    (b"", b"", [0, 0]), (b"", b"a", [0, 1]), (b"", b"\0", [0, 1]), (b"a", b"a", [1, 0]), (b"a", b"b", [0, 1]), (b"a", b"aa", [1, 1]),
+    (b"\x7F", b"\x80", [0, 1]), (b"\xFF", b"\0", [0, 2]), (b"a\x80", b"a\x7F\xFF", [1, 2]), (b"\0", b"\0\0", [1, 1]), (b"b", b"abc", [0, 2]),
+    (b"acb", b"abc", [1, 2]), (b"abc", b"abac", [2, 2]), (b"abcab", b"abc", [3, 2]), (b"abcabc", b"abcabd", [5, 1]), (b"abcabc", b"abcabc", [6, 0]),
+];
+
+fn swapped([shared, smaller]: [usize; 2]) -> [usize; 2] {
+    [shared, [0, 2, 1][smaller]]
+}
+
+/// A pair whose numbers, where nothing is refused, are these.
+fn told(t: &mut Tally, first: &[u8], second: &[u8], numbers: [usize; 2]) {
+    t.words += 2;
+    let holds = compare_holds(first.len(), second.len());
+    let (refusal, numbers) = if holds.none() { (0, numbers) } else { (holds.first(), [0, 0]) };
+    let (a, b) = (Lent::holding(first), Lent::holding(second));
+    let case = || format!("compare of {} and {}", show(first), show(second));
+    let there = engine::compare(a.contents(), b.contents());
+    t.equal(&there, &(refusal, numbers), case);
+    let back = engine::compare(b.contents(), a.contents());
+    t.check(there.1[1] < 3 && back == (there.0, swapped(there.1)), || format!("{}: {there:?}, the other way round {back:?}", case()));
+    t.check(a.unchanged() && b.unchanged(), || format!("{}: a string was changed", case()));
+}
+
+/// A pair of any lengths, held to the fast version.
+pub fn pair(t: &mut Tally, first: &[u8], second: &[u8]) {
+    told(t, first, second, fast::compared(first, second));
+}
+
+/// The same, held to both versions.
+fn naive_pair(t: &mut Tally, first: &[u8], second: &[u8]) {
+    let naive = oracle::compared(first, second);
+    t.equal(&fast::compared(first, second), &naive, || format!("the fast comparison of {} and {}", show(first), show(second)));
+    told(t, first, second, naive);
+}
+
+fn examples(t: &mut Tally) {
+    for (first, second, numbers) in EXAMPLES {
+        t.equal(&oracle::compared(first, second), &numbers, || format!("the order of {} and {}", show(first), show(second)));
+        naive_pair(t, first, second);
+    }
+}
+
+pub fn short(t: &mut Tally, letters: &[u8], length: usize) {
+    examples(t);
+    let words = every_word(letters, length);
+    for (k, first) in words.iter().enumerate() {
+        words[k..].iter().for_each(|second| naive_pair(t, first, second));
+    }
+}
+
+/// The byte at a place made each of its neighbours, and changed in its first bit and in all.
+fn changed_at(w: &[u8], place: usize) -> [Vec<u8>; 4] {
+    let byte = w[place];
+    [byte.wrapping_add(1), byte.wrapping_sub(1), byte ^ 0x80, byte ^ 0xFF].map(|other| {
+        let mut changed = w.to_vec();
+        changed[place] = other;
+        changed
+    })
+}
+
+/// A first difference at each place, before an equal ending and before one that is larger or smaller at each byte; and the string cut there.
+pub fn places(t: &mut Tally, r: &mut Random) {
+    for n in [1, 2, 15, 16, 17, 31, 33, 70] {
+        let w = random_of(r, n);
+        for place in 0..n {
+            naive_pair(t, &w, &w[..place]);
+            for changed in changed_at(&w, place) {
+                naive_pair(t, &w, &changed);
+                naive_pair(t, &w, &changed[..place + 1]);
+                for ending in [0, 0xFF] {
+                    naive_pair(t, &w, &[&changed[..place + 1], &vec![ending; n - place - 1]].concat());
+                }
+            }
+        }
+    }
+}
+
+/// A beginning and two endings: none, a byte, or up to a length; neither needs to differ from the other.
+fn drawn(r: &mut Random, most: usize) -> [Vec<u8>; 2] {
+    let n = r.below(most + 1);
+    let beginning = random_of(r, n);
+    [(); 2].map(|()| {
+        let more = [0, 1, r.below(9), r.below(most + 1 - n)][r.below(4)];
+        let ending = random_of(r, more);
+        [&beginning[..], &ending].concat()
+    })
+}
+
+/// Half of them are short, and a quarter may be over the limit.
+pub fn random(t: &mut Tally, r: &mut Random, count: usize) {
+    let mut seen = [0; 4];
+    for k in 0..count {
+        let most = [70, 70, 1000, LIMIT + 2][k % 4];
+        let [first, second] = drawn(r, most);
+        t.origin = format!("random pair {k}: ");
+        let [shared, smaller] = fast::compared(&first, &second);
+        let prefix = smaller != 0 && shared == first.len().min(second.len());
+        seen[if prefix { 3 } else { smaller }] += 1;
+        if most == LIMIT + 2 { pair(t, &first, &second) } else { naive_pair(t, &first, &second) }
+    }
+    t.check(seen.iter().all(|&count| count > 0), || format!("equal, first smaller, second, a prefix: {seen:?} pairs"));
+}
+
+/// Words beside themselves, their beginnings and endings, and with a byte changed at the front, inside and at the end.
+pub fn long(t: &mut Tally, r: &mut Random) {
+    for n in [LIMIT - 1, LIMIT, LIMIT + 1] {
+        for (family, w) in families(n, r) {
+            t.origin = format!("{family}, {n} bytes: ");
+            let inside = [r.below(n), r.below(n)];
+            for place in [0, 1, n / 2, n - 2, n - 1].into_iter().chain(inside) {
+                pair(t, &w, &w[..place]);
+                pair(t, &w, &w[place..]);
+                pair(t, &w[..place], &w[n - place..]);
+                changed_at(&w, place).iter().for_each(|changed| pair(t, &w, changed));
+            }
+            pair(t, &w, &w);
+        }
+    }
+}
