@@ -1,5 +1,5 @@
 //! The inputs of the benchmark: the ten families of tests/compare/families.rs at two lengths, the same with both tables, for the edits, the reach
-//! tables of short ones, and beginnings of one of them with their blocks. What is timed on them is main.rs's concern.
+//! tables of short ones, and beginnings of one of them, with their blocks or with a byte changed. What is timed on them is main.rs's concern.
 use crate::engine::Given;
 use crate::families::{A, B, families};
 use crate::plain;
@@ -84,12 +84,34 @@ impl Framed {
     }
 }
 
-/// What is copied does not matter, but how much: beginnings of the longest Fibonacci word.
-pub fn framed() -> Vec<Family<Framed>> {
+/// Two strings that differ in their last byte.
+pub struct Pair {
+    pub first: Vec<u8>,
+    pub second: Vec<u8>,
+}
+
+impl Pair {
+    fn new(word: &[u8]) -> Pair {
+        let mut second = word.to_vec();
+        *second.last_mut().expect("a byte to change") ^= 0xFF;
+        Pair { first: word.to_vec(), second }
+    }
+}
+
+/// What is copied or compared does not matter, but how much: beginnings of the longest Fibonacci word.
+fn beginnings<I>(input: fn(&[u8]) -> I) -> Vec<Family<I>> {
     let longest = words(SIZE);
     let word = first(&longest, "Fibonacci");
     let sizes = [("13 bytes", 13), ("256 bytes", 256), SIZES[0], SIZES[1]];
-    sizes.map(|(name, size)| (name, vec![Framed::new(&word[..size])])).into()
+    sizes.map(|(name, size)| (name, vec![input(&word[..size])])).into()
+}
+
+pub fn framed() -> Vec<Family<Framed>> {
+    beginnings(Framed::new)
+}
+
+pub fn pairs() -> Vec<Family<Pair>> {
+    beginnings(Pair::new)
 }
 
 /// The first word of a family.

@@ -1,6 +1,7 @@
 //! Times the engine's calls against the same algorithms in safe Rust, on 4,096 and 16,384 bytes of ten families, and on reach tables of 256 entries:
 //! `main time` prints a line for each size, family and contest, and `main table` the tables of all the lines that it reads, from several links of this
-//! program. `main once CONTEST` runs one call of each side on the longest Fibonacci word, or its table, for a tool that counts instructions.
+//! program. `main once CONTEST` runs one call of each side on the longest Fibonacci word, its table, or the word and a copy with a byte changed, for a
+//! tool that counts instructions.
 #[allow(dead_code)]
 #[path = "../tests/compare/engine.rs"]
 mod engine;
@@ -9,6 +10,7 @@ mod families;
 mod inputs;
 mod plain;
 mod plain_block;
+mod plain_compare;
 mod plain_edit;
 mod plain_text;
 mod plain_wanted;
@@ -19,7 +21,7 @@ mod table;
 mod tally;
 
 use engine::{Answer, EditAnswer};
-use inputs::{END, Family, Framed, MIDDLE, SIZE, SIZES, START, Stored, first};
+use inputs::{END, Family, Framed, MIDDLE, Pair, SIZE, SIZES, START, Stored, first};
 use race::{Call, Contest};
 use std::fmt::Debug;
 
@@ -27,6 +29,7 @@ type OfWord = Contest<Vec<u8>, usize>;
 type OfEdit = Contest<Stored, EditAnswer>;
 type OfTable = Contest<Vec<u16>, usize>;
 type OfBlock = Contest<Framed, [usize; 2]>;
+type OfPair = Contest<Pair, [usize; 2]>;
 
 const NO_TARGET: f64 = f64::INFINITY;
 /// In place of the mark of a shorter word repeated.
@@ -110,6 +113,13 @@ const BLOCKS: [OfBlock; 3] = [
     contest("read_block", READ, |f, _| plain_block::read(&f.block).expect("a block").into(), NO_TARGET),
 ];
 
+const COMPARE: Call<Pair, [usize; 2]> = |p, _| numbers(engine::compare(&p.first, &p.second));
+
+const PAIRS: [OfPair; 2] = [
+    contest("compare", COMPARE, |p, _| plain_compare::compare(&p.first, &p.second).expect("short strings"), 1.5),
+    contest("compare, by chunks", COMPARE, |p, _| plain_compare::compare_by_chunks(&p.first, &p.second).expect("short strings"), NO_TARGET),
+];
+
 /// Whether there was such a contest.
 fn once<I, O: Debug + PartialEq>(contests: &[Contest<I, O>], name: &str, input: &I) -> bool {
     contests.iter().find(|c| c.name == name).map(|c| c.once(input)).is_some()
@@ -129,8 +139,9 @@ fn names<I>(families: &[Family<I>]) -> Vec<&'static str> {
     families.iter().map(|f| f.0).collect()
 }
 
-/// Of a table whose families are lengths.
+/// Of the two tables whose families are lengths.
 const LENGTHS: &str = "blocks";
+const STRINGS: &str = "two strings";
 /// Of the table about wanted tables.
 const ENTRIES: &str = "256 entries";
 
@@ -145,6 +156,7 @@ fn main() {
             }
             race::race(ENTRIES, &TABLES, &inputs::wanted());
             race::race(LENGTHS, &BLOCKS, &inputs::framed());
+            race::race(STRINGS, &PAIRS, &inputs::pairs());
         }
         ["table"] => {
             let families = names(&inputs::words(SIZE));
@@ -155,6 +167,7 @@ fn main() {
             }
             table(ENTRIES, &TABLES, &families, &least);
             table(LENGTHS, &BLOCKS, &names(&inputs::framed()), &least);
+            table(STRINGS, &PAIRS, &names(&inputs::pairs()), &least);
             growth(&WORDS, &families, &least);
             growth(&EDITS, &families, &least);
         }
@@ -163,6 +176,7 @@ fn main() {
             let found = once(&WORDS, name, first(&words, "Fibonacci"))
                 || once(&TABLES, name, first(&inputs::wanted(), "Fibonacci"))
                 || once(&BLOCKS, name, first(&inputs::framed(), SIZES[1].0))
+                || once(&PAIRS, name, first(&inputs::pairs(), SIZES[1].0))
                 || once(&EDITS, name, first(&inputs::stored(words), "Fibonacci"));
             assert!(found, "no contest {name}");
         }

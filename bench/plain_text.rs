@@ -1,10 +1,12 @@
-//! The listing of a pattern as one writes it in safe Rust into a lent buffer, without formatting macros.
+//! The listing of a pattern as one writes it in safe Rust into a lent buffer, without formatting macros. A pass finds each group once and keeps it
+//! until the next one is found, with which its word is compared.
 //! `listing` measures before it writes and reads digits off a list of sixteen, as the engine does; `listing_unmeasured` writes straight away, with
 //! a table of 256 pairs of digits, and panics where the buffer is short.
 #![forbid(unsafe_code)]
 use crate::plain::groups;
+use crate::plain_compare::shared;
 
-const HEADER: &[u8] = b"start,length,power,word\r\n";
+const HEADER: &[u8] = b"start,length,power,word,shared\r\n";
 
 const DIGITS: &[u8; 16] = b"0123456789ABCDEF";
 
@@ -44,12 +46,16 @@ impl Writer<'_> {
         self.next(bytes.len()).copy_from_slice(bytes);
     }
 
-    /// A number in decimal and a comma.
-    fn field(&mut self, mut n: usize) {
+    /// A number in decimal.
+    fn number(&mut self, mut n: usize) {
         for digit in self.next(digits(n)).iter_mut().rev() {
             *digit = b'0' + (n % 10) as u8;
             n /= 10;
         }
+    }
+
+    fn field(&mut self, n: usize) {
+        self.number(n);
         self.bytes(b",");
     }
 
@@ -61,15 +67,27 @@ impl Writer<'_> {
     }
 }
 
+/// The numbers of each line: start, length, power, shared.
+fn lines(s: &[u8]) -> impl Iterator<Item = [usize; 4]> {
+    let mut groups = groups(s, 0).peekable();
+    std::iter::from_fn(move || {
+        let (start, length, power) = groups.next()?;
+        let common = |&(next, size, _): &(usize, usize, usize)| shared(&s[start..start + length], &s[next..next + size]);
+        Some([start, length, power, groups.peek().map_or(0, common)])
+    })
+}
+
 /// Writes the listing, with a function that gives a byte's two digits, and answers its length.
 fn write(s: &[u8], text: &mut [u8], two_digits: impl Fn(usize) -> [u8; 2]) -> usize {
     let mut out = Writer { text, at: 0 };
     out.bytes(HEADER);
-    for (start, length, power) in groups(s, 0) {
+    for [start, length, power, shared] in lines(s) {
         out.field(start);
         out.field(length);
         out.field(power);
         out.hexadecimal(&s[start..start + length], &two_digits);
+        out.bytes(b",");
+        out.number(shared);
         out.bytes(b"\r\n");
     }
     out.at
@@ -81,8 +99,8 @@ pub fn listing_unmeasured(s: &[u8], text: &mut [u8]) -> usize {
 }
 
 fn measure(s: &[u8]) -> usize {
-    let line = |(start, length, power)| digits(start) + digits(length) + digits(power) + 2 * length + 5;
-    HEADER.len() + groups(s, 0).map(line).sum::<usize>()
+    let line = |numbers: [usize; 4]| numbers.map(digits).iter().sum::<usize>() + 2 * numbers[1] + 6;
+    HEADER.len() + lines(s).map(line).sum::<usize>()
 }
 
 /// Where the buffer is too short it answers 0 and writes nothing.
