@@ -24,7 +24,7 @@ pub struct Rows {
 impl Rows {
     fn new() -> Rows {
         let group = Group { start: 7, length: 7, power: 7 };
-        Rows { numbers: vec![7; 3 * SIZE], records: vec![group; 272], starts: vec![7; SIZE], text: vec![7; 32 + 28 * SIZE] }
+        Rows { numbers: vec![7; 3 * SIZE], records: vec![group; 272], starts: vec![7; SIZE], text: vec![7; 32 + 20 * SIZE] }
     }
 }
 

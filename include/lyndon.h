@@ -33,7 +33,7 @@ extern "C" {
 
 /* Rows of these lengths are enough for every pattern and every edit: the bytes of a listing and of a definite length block, the middle
  * groups of an edit. */
-#define LYNDON_MAX_LISTING (32 + 28 * LYNDON_MAX_PATTERN)     /* 458784 */
+#define LYNDON_MAX_LISTING (32 + 20 * LYNDON_MAX_PATTERN)     /* 327712 */
 #define LYNDON_MAX_DEFINITE_BLOCK (7 + LYNDON_MAX_PATTERN)    /* 16391 */
 #define LYNDON_MAX_MIDDLE (15 + LYNDON_MAX_BLOCK + 1)         /* 272 */
 

@@ -11,7 +11,7 @@ void test_header(void) {
     part("the limits and the structs of the header");
     check(LYNDON_MAX_PATTERN == 16384 && LYNDON_MAX_BLOCK == 256 && LYNDON_MAX_TREE == 256 && LYNDON_MAX_WANTED == 256,
           "the limits");
-    check(LYNDON_MAX_LISTING == 458784 && LYNDON_MAX_DEFINITE_BLOCK == 16391 && LYNDON_MAX_MIDDLE == 272, "the rows that follow");
+    check(LYNDON_MAX_LISTING == 327712 && LYNDON_MAX_DEFINITE_BLOCK == 16391 && LYNDON_MAX_MIDDLE == 272, "the rows that follow");
     check(sizeof(lyndon_group) == 6, "the size of a group");
     check(offsetof(lyndon_group, start) == 0 && offsetof(lyndon_group, length) == 2 && offsetof(lyndon_group, power) == 4, "a group");
     check(sizeof(lyndon_edit_answer) == 48 && offsetof(lyndon_edit_answer, refusal) == 0, "the size of an answer");

@@ -19,7 +19,7 @@ fn row() -> Vec<u16> {
 
 /// A buffer for every listing.
 fn text() -> Vec<u8> {
-    vec![0; 32 + 28 * LIMIT]
+    vec![0; 32 + 20 * LIMIT]
 }
 
 fn says(t: &mut Tally, what: &str, n: usize, got: u8, want: u8) {

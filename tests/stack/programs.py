@@ -8,7 +8,7 @@ import sys
 import tempfile
 
 # in KiB; the loader's part counts too
-BOUND = 640
+BOUND = 512
 USUAL = 8192
 
 # the longest pattern, in bytes

@@ -71,10 +71,23 @@ fn trees() {
     calls::lyndon_tree(&[b'a'; 16385], 1026);
 }
 
+// Either string is enough.
+fn comparisons(accepted: &[u8], refused: &[u8]) {
+    show::heading(b"compared: 16384 bytes a .. a and 16385; 65536 bytes");
+    calls::compare(accepted, accepted);
+    calls::compare(accepted, b"b");
+    calls::compare(refused, accepted);
+    calls::compare(accepted, refused);
+    calls::compare(refused, refused);
+    calls::compare(b"b", refused);
+    calls::compare(&[b'a'; 65536], b"");
+}
+
 pub(crate) fn run() {
     accepted();
     refused();
     repeated(&[b'a'; 16384]);
     last_start();
     trees();
+    comparisons(&[b'a'; 16384], &[b'a'; 16385]);
 }

@@ -95,6 +95,14 @@ pub fn is_lyndon(word: &[u8]) {
     crate::verdict(lyndon_words::is_lyndon(word));
 }
 
+pub fn compare(first: &[u8], second: &[u8]) {
+    crate::text(b"compare");
+    crate::word(first);
+    crate::text(b" with");
+    crate::word(second);
+    crate::compared(lyndon_compare::compare(first, second));
+}
+
 pub fn least_rotation(pattern: &[u8]) {
     crate::text(b"least_rotation");
     crate::word(pattern);

@@ -7,6 +7,7 @@ ghost use Prim.Native.Nat.{_<_};
 ghost use Rattle.show.specs.Digest.{digestFrom};
 use block::Extent;
 use libc::STDOUT_FILENO;
+use lyndon_compare::Comparison;
 use lyndon_words::Position;
 use lyndon_words::Starts;
 use lyndon_words::Verdict;
@@ -182,6 +183,18 @@ pub fn verdict(a: Verdict) {
     } else {
         text(b" no\n");
     }
+}
+
+pub fn compared(a: Comparison) {
+    text(b":");
+    match a {
+        Comparison::Done(c) => {
+            number(b"shared", c.shared as u64);
+            number(b"smaller", c.smaller as u64);
+        }
+        Comparison::Refused(n) => number(b"refusal", n as u64),
+    }
+    text(b"\n");
 }
 
 pub fn position(a: Position) {

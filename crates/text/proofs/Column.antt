@@ -24,7 +24,7 @@ word-first t i zero f fs n j = absurd (omega arith)
 word-first t i (suc e) f fs n j = ap (take (length f)) (sym j) ∙ take-append-seam f (join (replicate e f ++ fs))
 
 -- what is joined behind e equal words
-joined-behind : (t : List ℕ) (i e : ℕ) (f : List ℕ) (fs : List (List ℕ)) → join (replicate e f ++ fs) ≡ drop i t → join fs ≡ drop (i + e * length f) t
+pub joined-behind : (t : List ℕ) (i e : ℕ) (f : List ℕ) (fs : List (List ℕ)) → join (replicate e f ++ fs) ≡ drop i t → join fs ≡ drop (i + e * length f) t
 joined-behind t i e f fs j =
     let p : join (replicate e f) ++ join fs ≡ drop i t = sym (join-append (replicate e f) fs) ∙ j in
     sym (drop-at (join (replicate e f)) (join fs) (e * length f) (repeat-length f e)) ∙ ap (drop (e * length f)) p ∙ drop-drop (e * length f) i t
@@ -39,10 +39,10 @@ next-smaller (suc e) f g fs n a d = go (le-choice g f (all-le-right f (replicate
     go (inr h) = absurd (same-false f g d (sym h))
 
 -- the column of a group is less than its size, which is the length of its word
-abbrev Shorter : List ℕ → Group → List Group → Type 0
+abbrev pub Shorter : List ℕ → Group → List Group → Type 0
 Shorter t g gs = (sharedColumn t g gs < g .size) × (length (wordOf t g) ≡ g .size)
 
-first-column : (t : List ℕ) {i : ℕ} {fs : List (List ℕ)} (g : Group) (gs : List Group) → Packed i fs (g ∷ gs) → Falling fs → join fs ≡ drop i t
+pub first-column : (t : List ℕ) {i : ℕ} {fs : List (List ℕ)} (g : Group) (gs : List Group) → Packed i fs (g ∷ gs) → Falling fs → join fs ≡ drop i t
     → Shorter t g gs
 first-column t {i} g [] (more e f fs n h p) a j = (some e n a, ap length (word-first t i e f fs n j))
   where

@@ -1,22 +1,24 @@
 -- The lengths of words and lines, and of the lines of a pass over the groups.
 use mathlib.Core.List.{List, [], _∷_, _++_}
+use mathlib.Core.Logic.{_⊎_, inl, inr}
 use mathlib.Core.Path.{_≡_, refl, ap, _∙_}
-use Prim.Native.Nat.{ℕ, _+_, _-_, _*_, _≤_}
+use Prim.Native.Nat.{ℕ, _+_, _-_, _*_, _≤_, _<_}
 use native.Mathlib.Nat.{mul-le-mul-right}
 use native.Mathlib.Omega.{arith}
-use lib.ListN.{length, take, drop, replicate, length-append, length-take, length-drop, length-replicate}
+use lib.ListN.{length, drop, replicate, length-append, length-drop, length-replicate}
 use Rattle.hex.specs.Hex.{pairOf}
 use Rattle.words.specs.Factors.{join, factors, Group}
 use Rattle.words.specs.Tables.{suffixGroups}
-use Rattle.words.proofs.Factors.{join-append, join-factors, factors-falling}
+use Rattle.words.proofs.Bounded.{le-or-lt}
+use Rattle.words.proofs.Factors.{Falling, join-append, join-factors, factors-falling, falling-right}
 use Rattle.words.proofs.EditParts.{end-apart, end-all}
-use Rattle.words.proofs.Groups.{group, Packed, none, more, packed, groups-most}
+use Rattle.words.proofs.Groups.{group, Packed, none, more, packed}
 use Rattle.words.proofs.Repeated.{repeat-length}
-use Rattle.words.proofs.Shared.{shared-left}
 use Rattle.decimal.specs.Decimal.{codes, digitCount, decimal}
 use Rattle.text.specs.Hexadecimal.{hexadecimal}
 use Rattle.text.specs.Listing.{header, field, lastField, wordOf, sharedColumn, line, lines}
 use Rattle.decimal.proofs.Decimal.{length-decimal, count-least}
+use Rattle.text.proofs.Column.{joined-behind, first-column}
 
 pub length-hexadecimal : (w : List ℕ) → length (hexadecimal w) ≡ 2 * length w
 unfolding pairOf
@@ -48,39 +50,39 @@ pub line-counts : (start power : ℕ) (word : List ℕ) (shared : ℕ) → lengt
 unfolding line
 line-counts start power word shared = simp (length-append, length-hexadecimal) (omega arith)
 
--- the column is at most the word's length
-column-most : (t : List ℕ) (g : Group) (gs : List Group) → sharedColumn t g gs ≤ g .size
-column-most t g [] = omega arith
-column-most t g (h ∷ gs) = omega (arith, shared-left (wordOf t g) (wordOf t h), length-take (g .size) (drop (g .start) t))
-
 -- of e equal factors
 length-joined : (e : ℕ) (f : List ℕ) (fs : List (List ℕ)) → length (join (replicate e f ++ fs)) ≡ e * length f + length (join fs)
 length-joined e f fs =
     ap length (join-append (replicate e f) fs) ∙ length-append (join (replicate e f)) (join fs) ∙ ap (λ n. n + length (join fs)) (repeat-length f e)
 
--- with places, lengths and powers of 16 bits, which have at most five digits
-packed-bound : (t : List ℕ) {i : ℕ} {fs : List (List ℕ)} {gs : List Group} → Packed i fs gs → length fs ≤ 65535 → i + length (join fs) ≤ 65535
-    → length (lines t gs) ≤ 26 * length gs + 2 * length (join fs)
-packed-bound t none h l = omega arith
-packed-bound t {i} (more e f fs {gs} n h p) k l =
-    let word = take (length f) (drop i t) in
-    let column = sharedColumn t (group i (length f) e) gs in
+-- with places, lengths and powers of 16 bits, which have at most five digits: of a word of one byte, two numbers have one
+line-most : (i e : ℕ) (f word : List ℕ) (column : ℕ) → i ≤ 65535 → length f ≤ 65535 → e ≤ 65535 → length word ≤ length f → column < length f
+    → length (line i (length f) e word column) ≤ 20 * length f
+line-most i e f word column h l k w c = go (le-or-lt (length f) 1)
+  where
+    parts : length (line i (length f) e word column) ≤ 10 + digitCount (length f) + digitCount column + 2 * length word + 6
+    parts = omega (arith, length-line i (length f) e word column, count-least i 4 (omega arith), count-least e 4 (omega arith))
+
+    go : (length f ≤ 1) ⊎ (1 < length f) → length (line i (length f) e word column) ≤ 20 * length f
+    go (inl one) = omega (arith, parts, count-least (length f) 0 (omega arith), count-least column 0 (omega arith))
+    go (inr two) = omega (arith, parts, count-least (length f) 4 (omega arith), count-least column 4 (omega arith))
+
+packed-bound : (t : List ℕ) {i : ℕ} {fs : List (List ℕ)} {gs : List Group} → Packed i fs gs → Falling fs → join fs ≡ drop i t
+    → length fs ≤ 65535 → i + length (join fs) ≤ 65535 → length (lines t gs) ≤ 20 * length (join fs)
+packed-bound t none a j h l = omega arith
+packed-bound t {i} (more e f fs {gs} n h p) a j k l =
+    let g = group i (length f) e in
     let m = length-joined e f fs in
     let one : 1 ≤ e = omega arith in
     let fits : length f ≤ e * length f = omega (arith, mul-le-mul-right (length f) one) in
     let all : length (replicate e f ++ fs) ≡ e + length fs = length-append (replicate e f) fs ∙ ap (λ u. u + length fs) (length-replicate e f) in
+    let column = first-column t g gs (more e f fs n h p) a j in
     omega (
       arith,
       m,
-      packed-bound t p (omega arith) (omega arith),
-      length-append (line i (length f) e word column) (lines t gs),
-      length-line i (length f) e word column,
-      column-most t (group i (length f) e) gs,
-      length-take (length f) (drop i t),
-      count-least i 4 (omega arith),
-      count-least (length f) 4 (omega arith),
-      count-least e 4 (omega arith),
-      count-least column 4 (omega (arith, column-most t (group i (length f) e) gs)),
+      packed-bound t p (falling-right (replicate e f) fs a) (joined-behind t i e f fs j) (omega arith) (omega arith),
+      length-append (line i (length f) e (wordOf t g) (sharedColumn t g gs)) (lines t gs),
+      line-most i e f (wordOf t g) (sharedColumn t g gs) (omega arith) (omega arith) (omega arith) (omega (arith, column .1)) (column .0),
     )
 
 -- a pattern has no more factors than symbols
@@ -88,11 +90,11 @@ factors-few : (s : List ℕ) → length (factors s) ≤ length s
 factors-few s = omega (arith, end-apart 0 (length (factors s)) (factors s) (factors-falling s) (omega arith) (omega arith), end-all s)
 
 -- the lines of a pattern whose places are 16-bit numbers
-pub suffix-most : (s : List ℕ) (i : ℕ) → i ≤ length s → length s ≤ 65535 → length (lines s (suffixGroups s i)) ≤ 28 * length s
+pub suffix-most : (s : List ℕ) (i : ℕ) → i ≤ length s → length s ≤ 65535 → length (lines s (suffixGroups s i)) ≤ 20 * length s
 unfolding suffixGroups
 suffix-most s i h l =
     let rest = drop i s in
     let few = factors-few rest in
     let n : length (join (factors rest)) ≡ length s - i = ap length (join-factors rest) ∙ length-drop i s in
-    let bound = packed-bound s (packed i (factors rest)) (omega (arith, few, length-drop i s)) (omega (arith, n)) in
-    omega (arith, bound, n, groups-most i (factors rest), few, length-drop i s)
+    let bound = packed-bound s (packed i (factors rest)) (factors-falling rest) (join-factors rest) (omega (arith, few, length-drop i s)) (omega (arith, n)) in
+    omega (arith, bound, n)

@@ -1,6 +1,6 @@
+pub mod Column
 pub mod Lengths
 pub mod Begins
 pub mod Word
 pub mod Lines
 pub mod Examples
-pub mod Column

@@ -8,7 +8,7 @@ use Rattle.scan.specs.Group.{NextGroup}
 
 -- No listing of a pattern of at most `maxPattern` bytes is longer: `listing-room`.
 abbrev pub maxListing : ℕ
-maxListing = 32 + 28 * maxPattern
+maxListing = 32 + 20 * maxPattern
 
 -- The group that starts at place i, or a size of 0 at the end of the pattern, where none does.
 pub record GroupFrom (s : List ℕ) (i size power : ℕ) : Type 0 where

@@ -21,9 +21,9 @@ ghost use Rattle.rows.specs.Written.{Room, Puts};
 // The first line of every listing.
 pub const HEADER: [u8; 32] = *b"start,length,power,word,shared\r\n";
 
-// No listing of an accepted pattern is longer: the header, and for each byte at most a line, which has four commas and the line end,
-// four numbers of at most five digits and a pair of digits.
-pub const MAX_LISTING: usize = 32 + 28 * MAX_PATTERN;
+// No listing of an accepted pattern is longer: the header, and 20 for each byte. The line of a word of one byte has four commas and the line
+// end, two numbers of at most five digits, a 1 and a 0, and a pair of digits; of longer words there are fewer to a byte.
+pub const MAX_LISTING: usize = 32 + 20 * MAX_PATTERN;
 
 const LINE_END: [u8; 2] = *b"\r\n";
 
