@@ -1,7 +1,7 @@
-//! Times the engine's calls against the same algorithms in safe Rust, on 4,096 and 16,384 bytes of ten families, and on reach tables of 256 entries:
-//! `main time` prints a line for each size, family and contest, and `main table` the tables of all the lines that it reads, from several links of this
-//! program. `main once CONTEST` runs one call of each side on the longest Fibonacci word, its table, or the word and a copy with a byte changed, for a
-//! tool that counts instructions.
+//! Times the engine's calls against the same algorithms in safe Rust, on 4,096 and 16,384 bytes of ten families, and on reach tables of 256
+//! entries: `main time` prints a line for each size, family and contest, and `main table` the tables of all the lines that it reads, from several
+//! links of this program. `main once CONTEST` runs one call of each side on the longest Fibonacci word, its table, or the word and a copy with a
+//! byte changed, for a tool that counts instructions.
 #[allow(dead_code)]
 #[path = "../tests/compare/engine.rs"]
 mod engine;

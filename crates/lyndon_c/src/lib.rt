@@ -1,7 +1,7 @@
-// The calls of `lyndon`, `lyndon_words`, `lyndon_compare`, `lyndon_parts`, `lyndon_text` and `block` under C names, on numbers and slices: the
-// answer is the refusal's number, and what else is told goes through `&mut`. Each body is the call and the taking apart of its answer; include/lyndon.h
-// declares them. Slices stand before numbers in every list of parameters: a slice that got the last register and a place on the stack would
-// not be found where Rust puts one.
+// The calls of `lyndon`, `lyndon_words`, `lyndon_compare`, `lyndon_parts`, `lyndon_text` and `block` under C names, on numbers and slices:
+// the answer is the refusal's number, and what else is told goes through `&mut`. Each body is the call and the taking apart of its answer;
+// include/lyndon.h declares them. Slices stand before numbers in every list of parameters: a slice that got the last register and a place
+// on the stack would not be found where Rust puts one.
 use block::read_block;
 use block::write_block;
 use lyndon::factor;

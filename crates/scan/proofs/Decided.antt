@@ -14,8 +14,12 @@ use Rattle.words.specs.Order.{less, same, smaller, shared}
 use Rattle.words.proofs.Bounded.{le-or-lt}
 use Rattle.words.proofs.Order.{false-same}
 use Rattle.words.proofs.Shared.{shared-is, less-behind}
-use Rattle.scan.specs.Compared.{smallerNumber, compared}
+use Rattle.scan.specs.Compared.{compared}
 use Rattle.scan.specs.declared.Compared.{Compared}
+
+-- which of two numbers is smaller, as `smaller` says it of strings
+abbrev pub smallerNumber : ℕ → ℕ → ℕ
+smallerNumber m n = cond (ltb m n) 1 (cond (ltb n m) 2 0)
 
 module _ (a b : List ℕ) (k : ℕ) where
   less-ends-second : k < length a → length b ≤ k → less (drop k a) (drop k b) ≡ false

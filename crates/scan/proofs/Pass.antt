@@ -1,5 +1,6 @@
 -- One turn of a pass over the groups of a pattern: what is counted or written, and what is left.
 use mathlib.Core.List.{List, [], _∷_}
+use mathlib.Core.Logic.{_⊎_, inl, inr}
 use mathlib.Core.Path.{_≡_, refl, ap}
 use Prim.Native.Nat.{ℕ, _+_, _*_, _≤_, _<_}
 use native.Mathlib.Nat.{mul-le-mul-right, le-mul-of-pos-right}
@@ -7,8 +8,9 @@ use native.Mathlib.Omega.{arith}
 use lib.ListN.{length, set}
 use Rattle.words.specs.Factors.{Group, groupNumbers}
 use Rattle.words.specs.Tables.{suffixGroups}
+use Rattle.words.proofs.Bounded.{le-or-lt}
 use Rattle.rows.proofs.Wrote.{Wrote, wrote-one, wrote-room}
-use Rattle.scan.specs.Group.{NextGroup}
+use Rattle.scan.specs.Group.{NextGroup, GroupFrom}
 
 -- the stretch of a group is at least its factor and its power
 pub record Stretches (l e : ℕ) : Type 0 where
@@ -39,6 +41,14 @@ module _ {s : List ℕ} {i l e : ℕ} (g : NextGroup s i l e) where
 
   pub group-room : {out d row : List ℕ} {at : ℕ} → Wrote out d row at (groupNumbers (suffixGroups s i)) → at + 3 ≤ length row
   group-room w = omega (arith, wrote-room w, ap length (ap groupNumbers (g .group)))
+
+-- a group, or none, ends within the pattern
+pub from-fits : {s : List ℕ} {i l e : ℕ} → GroupFrom s i l e → i ≤ length s → i + l ≤ length s
+from-fits {s} {i} {l} {e} g h = go (le-or-lt (length s) i)
+  where
+    go : (length s ≤ i) ⊎ (i < length s) → i + l ≤ length s
+    go (inl k) = omega (arith, g .none k)
+    go (inr k) = omega (arith, length-fits (g .group k), g .group k .fits)
 
 pub length-numbers : (gs : List Group) → length (groupNumbers gs) ≡ 3 * length gs
 length-numbers [] = refl

@@ -1,12 +1,14 @@
 // Comparison of two strings, and Duval's scan: the group of factors that starts at a place of a pattern.
 // The inner loop of everything that lists factors; refusals and rows are left to the crates above.
+ghost use mathlib.Core.Bool.{cond};
 ghost use mathlib.Core.Path.{_≡_};
 ghost use mathlib.Core.Logic.{_⊎_};
-ghost use Prim.Native.Nat.{_<_, _≤_};
-ghost use lib.ListN.{length};
-ghost use Rattle.words.specs.Order.{less, same};
-ghost use Rattle.scan.specs.Compared.{smallerNumber, compared};
-ghost use Rattle.scan.specs.Group.{NextGroup};
+ghost use Prim.Native.Nat.{_<_, _≤_, _+_};
+ghost use lib.Dec.{ltb};
+ghost use lib.ListN.{length, take, drop};
+ghost use Rattle.words.specs.Order.{less, same, shared};
+ghost use Rattle.scan.specs.Compared.{compared};
+ghost use Rattle.scan.specs.Group.{NextGroup, GroupFrom};
 
 // The smaller of two lengths.
 fn shorter(m: usize, n: usize) -> usize
@@ -17,7 +19,7 @@ fn shorter(m: usize, n: usize) -> usize
 
 // Which of two numbers is smaller: 1 the first, 2 the second, 0 where neither is.
 fn smaller_number(m: usize, n: usize) -> u8
-    ensures { λ r. ⌜ r ≡ smallerNumber m n ⌝ }
+    ensures { λ r. ⌜ r ≡ cond (ltb m n) 1 (cond (ltb n m) 2 0) ⌝ }
 {
     if m < n {
         return 1;
@@ -76,6 +78,17 @@ pub fn agree(a: &[u8], b: &[u8]) -> bool
     c.smaller == 0
 }
 
+// The shared length of two parts of a pattern, of m bytes from i on and of n bytes from j on.
+pub fn shared_length(s: &[u8], i: usize, m: usize, j: usize, n: usize) -> usize
+    requires { ⌜ (i + m ≤ length (now s)) × (j + n ≤ length (now s)) ⌝ }
+    ensures { λ r. ⌜ r ≡ shared (take m (drop i (now (s .entry)))) (take n (drop j (now (s .entry)))) ⌝ }
+{
+    let end = i + m;
+    let stop = j + n;
+    let c = compare(&s[i..end], &s[j..stop]);
+    c.shared
+}
+
 // A stretch of equal neighbouring factors: the length of one, and how many there are.
 pub struct Stretch {
     pub length: usize,
@@ -106,5 +119,18 @@ pub fn next_group(s: &[u8], i: usize) -> Stretch
     Stretch {
         length: p,
         power: (j - i) / p,
+    }
+}
+
+// The group that starts at a place; at the end of the pattern, where none does, its length is 0.
+pub fn group_from(s: &[u8], i: usize) -> Stretch
+    ensures { λ r. ⌜ GroupFrom (now (s .entry)) i (r .length) (r .power) ⌝ }
+{
+    if i < s.len() {
+        return next_group(s, i);
+    }
+    Stretch {
+        length: 0,
+        power: 0,
     }
 }

@@ -8,7 +8,7 @@ use lib.ListN.{length, take, drop, set, length-append, length-drop}
 use lib.Seq.{length-take-le}
 use Rattle.rows.proofs.Wrote.{Wrote, wrote-part, wrote-room, set-written}
 use Rattle.refusals.specs.Refusals.{maxPattern}
-use Rattle.scan.specs.Group.{NextGroup}
+use Rattle.scan.specs.Group.{NextGroup, GroupFrom}
 use Rattle.scan.proofs.Next.{groups-start, suffix-end}
 use Rattle.scan.proofs.Pass.{length-fits}
 use Rattle.words.specs.Order.{shared}
@@ -18,7 +18,7 @@ use Rattle.words.proofs.Groups.{group}
 use Rattle.words.proofs.Shared.{shared-right}
 use Rattle.decimal.specs.Decimal.{codes, decimal}
 use Rattle.text.specs.Hexadecimal.{hexadecimal}
-use Rattle.text.specs.Inner.{maxListing, GroupFrom}
+use Rattle.text.specs.Inner.{maxListing}
 use Rattle.text.specs.Listing.{header, lineEnd, field, lastField, sharedColumn, line, lines, listingText, refusalText}
 use Rattle.rows.specs.Written.{Room, Puts}
 use Rattle.decimal.proofs.Decimal.{count-least, length-decimal}
@@ -53,13 +53,6 @@ line-put start power word shared d i h p₁ p₂ p₃ p₄ p₅ =
 -- the part of s from i to j
 abbrev part : List ℕ → ℕ → ℕ → List ℕ
 part s i j = take (j - i) (drop i s)
-
-pub from-fits : {s : List ℕ} {i l e : ℕ} → GroupFrom s i l e → i ≤ length s → i + l ≤ length s
-from-fits {s} {i} {l} {e} g h = go (le-or-lt (length s) i)
-  where
-    go : (length s ≤ i) ⊎ (i < length s) → i + l ≤ length s
-    go (inl k) = omega (arith, g .none k)
-    go (inr k) = omega (arith, length-fits (g .group k), g .group k .fits)
 
 -- one turn of a pass over the groups of s: the line of the group at i, whose word is compared with the next one's, and the lines that are left
 module _ {s : List ℕ} {i l e l′ e′ c : ℕ} (g : NextGroup s i l e) (next : GroupFrom s (i + e * l) l′ e′)

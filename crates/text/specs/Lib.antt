@@ -1,4 +1,4 @@
--- Reading order: Hexadecimal, Listing. Inner is for this crate's and the programs' own functions.
+-- Reading order: Hexadecimal, Listing. Inner is for the programs' own functions.
 pub mod Hexadecimal
 pub mod Listing
 pub mod Inner

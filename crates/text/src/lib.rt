@@ -5,16 +5,13 @@ use decimal::write_decimal;
 use hex::pair_of;
 use refusals::MAX_PATTERN;
 use rows::write_bytes;
-use scan::Stretch;
-use scan::compare;
-use scan::next_group;
+use scan::group_from;
+use scan::shared_length;
 ghost use mathlib.Core.Path.{_≡_};
-ghost use Prim.Native.Nat.{_<_, _≤_, _+_};
-ghost use lib.ListN.{length, take, drop};
-ghost use Rattle.words.specs.Order.{shared};
+ghost use Prim.Native.Nat.{_<_, _≤_};
+ghost use lib.ListN.{length};
 ghost use Rattle.words.specs.Tables.{suffixGroups};
 ghost use Rattle.text.specs.Hexadecimal.{hexadecimal};
-ghost use Rattle.text.specs.Inner.{GroupFrom};
 ghost use Rattle.text.specs.Listing.{header, field, lastField, line, lines, listingText, refusalText};
 ghost use Rattle.rows.specs.Written.{Room, Puts};
 
@@ -93,30 +90,6 @@ fn line_length(start: usize, power: usize, word: &[u8], shared: usize) -> usize
     let size = word.len();
     let digits = digit_count(start) + digit_count(size) + digit_count(power) + digit_count(shared);
     digits + 2 * size + 6
-}
-
-// The group that starts at a place; at the end of the pattern, where none does, its length is 0.
-fn group_from(s: &[u8], i: usize) -> Stretch
-    ensures { λ r. ⌜ GroupFrom (now (s .entry)) i (r .length) (r .power) ⌝ }
-{
-    if i < s.len() {
-        return next_group(s, i);
-    }
-    Stretch {
-        length: 0,
-        power: 0,
-    }
-}
-
-// The shared length of two parts of a pattern, of m bytes from i on and of n bytes from j on.
-fn shared_length(s: &[u8], i: usize, m: usize, j: usize, n: usize) -> usize
-    requires { ⌜ (i + m ≤ length (now s)) × (j + n ≤ length (now s)) ⌝ }
-    ensures { λ r. ⌜ r ≡ shared (take m (drop i (now (s .entry)))) (take n (drop j (now (s .entry)))) ⌝ }
-{
-    let end = i + m;
-    let stop = j + n;
-    let c = compare(&s[i..end], &s[j..stop]);
-    c.shared
 }
 
 // Writes the lines of a pattern's groups from a place on. Each group is found once: as the next one, for its word,

@@ -1,7 +1,7 @@
-// Runs the public calls on the cases of the papers, their published examples, wanted tables, comparisons, edits, and blocks. `show` prints a line a
-// case: the call, what is given, the answer, and the lent row as the call leaves it, for a pattern that is free its reach table; entries of 7777, and bytes
-// `.`, are as they were lent. What must be printed, the file `stdout`, was computed from the papers' definitions and the words on blocks, apart
-// from this project's code. What a call refuses, but for edits and blocks, is left to `refusal_vectors`.
+// Runs the public calls on the cases of the papers, their published examples, wanted tables, comparisons, edits, and blocks. `show` prints a line
+// a case: the call, what is given, the answer, and the lent row as the call leaves it, for a pattern that is free its reach table; entries of
+// 7777, and bytes `.`, are as they were lent. What must be printed, the file `stdout`, was computed from the papers' definitions and the words on
+// blocks, apart from this project's code. What a call refuses, but for edits and blocks, is left to `refusal_vectors`.
 mod blocks;
 mod comparisons;
 mod edits;

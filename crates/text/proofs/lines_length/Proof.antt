@@ -4,20 +4,20 @@ use Prim.Native.Nat.{_≤_, _-_, _+_}
 use lib.ListN.{length}
 use native.Mathlib.Omega.{arith}
 use Rattle.words.specs.Tables.{suffixGroups}
+use Rattle.scan.specs.Group.{GroupFrom}
 use Rattle.scan.proofs.Next.{suffix-end, group-long}
-use Rattle.scan.proofs.Pass.{length-fits}
-use Rattle.text.specs.Inner.{GroupFrom}
+use Rattle.scan.proofs.Pass.{length-fits, from-fits}
 use Rattle.text.specs.Listing.{lines}
 use Rattle.text.proofs.Lengths.{suffix-most}
-use Rattle.text.proofs.Lines.{from-fits, measure-turn}
+use Rattle.text.proofs.Lines.{measure-turn}
 use borrow.Author.Needs.{needs}
 use Rattle.text.proofs.lines_length.Statement.{statement}
 use Rattle.text.proofs.lines_length.Tie as tie
 use Rattle.text.proofs.lines_length.Reads as reads
 use Rattle.text.proofs.lines_length.Lts as lts
-use Rattle.text.proofs.group_from.Reads as group-from-reads
+use Rattle.scan.proofs.group_from.Reads as group-from-reads
 use Rattle.text.proofs.line_length.Reads as line-length-reads
-use Rattle.text.proofs.shared_length.Reads as shared-length-reads
+use Rattle.scan.proofs.shared_length.Reads as shared-length-reads
 
 abbrev Inv-loop : tie.InvT-loop
 Inv-loop s from total₀ i₀ g₀ total i g =

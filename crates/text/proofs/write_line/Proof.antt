@@ -33,7 +33,8 @@ write-word-requires c κs =
 
 write-last-requires : tie.Need-write-last-requires
 write-last-requires c κs =
-    let a = c .before .before .before .before .before .before .before .before .before .before .before .before .before .before .before .before .before .before .before .args in
+    let a = c .before .before .before .before .before .before .before .before .before .before
+    .before .before .before .before .before .before .before .before .before .args in
     omega (arith, line-parts (a .start) (a .power) (a .word .now) (a .shared))
 
 same-length : tie.Need-same-length

@@ -6,18 +6,18 @@ use native.Mathlib.Omega.{arith}
 use Rattle.words.specs.Tables.{suffixGroups}
 use Rattle.rows.proofs.Wrote.{wrote-length}
 use Rattle.rows.proofs.Puts.{Putting, putting-none, putting-all}
+use Rattle.scan.specs.Group.{GroupFrom}
 use Rattle.scan.proofs.Next.{suffix-end, group-long}
-use Rattle.scan.proofs.Pass.{length-fits}
-use Rattle.text.specs.Inner.{GroupFrom}
+use Rattle.scan.proofs.Pass.{length-fits, from-fits}
 use Rattle.text.specs.Listing.{lines}
-use Rattle.text.proofs.Lines.{from-fits, line-room, line-turn}
+use Rattle.text.proofs.Lines.{line-room, line-turn}
 use borrow.Author.Needs.{needs}
 use Rattle.text.proofs.write_lines.Statement.{statement}
 use Rattle.text.proofs.write_lines.Tie as tie
 use Rattle.text.proofs.write_lines.Reads as reads
 use Rattle.text.proofs.write_lines.Lts as lts
-use Rattle.text.proofs.group_from.Reads as group-from-reads
-use Rattle.text.proofs.shared_length.Reads as shared-length-reads
+use Rattle.scan.proofs.group_from.Reads as group-from-reads
+use Rattle.scan.proofs.shared_length.Reads as shared-length-reads
 use Rattle.text.proofs.write_line.Reads as write-line-reads
 
 abbrev Inv-loop : tie.InvT-loop

@@ -1,12 +1,12 @@
--- `text::group_from` meets its contract.
+-- `scan::group_from` meets its contract.
 use native.Mathlib.Omega.{arith}
 use mathlib.Core.Path.{refl}
 use borrow.Author.Needs.{needs}
-use Rattle.text.proofs.group_from.Statement.{statement}
-use Rattle.text.proofs.group_from.Tie as tie
-use Rattle.text.proofs.group_from.Reads as reads
-use Rattle.text.proofs.group_from.Lts as lts
+use Rattle.scan.proofs.group_from.Statement.{statement}
+use Rattle.scan.proofs.group_from.Tie as tie
+use Rattle.scan.proofs.group_from.Reads as reads
+use Rattle.scan.proofs.group_from.Lts as lts
 use Rattle.scan.proofs.next_group.Reads as next-group-reads
 
 next-group-requires : tie.Need-next-group-requires
 next-group-requires c κs = search needs
