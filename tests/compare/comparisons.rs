@@ -47,7 +47,7 @@ fn naive_pair(t: &mut Tally, first: &[u8], second: &[u8]) {
     told(t, first, second, naive);
 }
 
-fn examples(t: &mut Tally) {
+pub fn examples(t: &mut Tally) {
     for (first, second, numbers) in EXAMPLES {
         t.equal(&oracle::compared(first, second), &numbers, || format!("the order of {} and {}", show(first), show(second)));
         naive_pair(t, first, second);
@@ -55,7 +55,6 @@ fn examples(t: &mut Tally) {
 }
 
 pub fn short(t: &mut Tally, letters: &[u8], length: usize) {
-    examples(t);
     let words = every_word(letters, length);
     for (k, first) in words.iter().enumerate() {
         words[k..].iter().for_each(|second| naive_pair(t, first, second));
@@ -100,19 +99,20 @@ fn drawn(r: &mut Random, most: usize) -> [Vec<u8>; 2] {
     })
 }
 
-/// Half of them are short, and a quarter may be over the limit.
+/// Half of them are short, and some of the last quarter are over the limit.
 pub fn random(t: &mut Tally, r: &mut Random, count: usize) {
-    let mut seen = [0; 4];
+    let mut seen = [0; 5];
     for k in 0..count {
-        let most = [70, 70, 1000, LIMIT + 2][k % 4];
+        let most = [70, 70, 1000, LIMIT + LIMIT / 4][k % 4];
         let [first, second] = drawn(r, most);
         t.origin = format!("random pair {k}: ");
         let [shared, smaller] = fast::compared(&first, &second);
         let prefix = smaller != 0 && shared == first.len().min(second.len());
-        seen[if prefix { 3 } else { smaller }] += 1;
-        if most == LIMIT + 2 { pair(t, &first, &second) } else { naive_pair(t, &first, &second) }
+        let refused = LIMIT < first.len().max(second.len());
+        seen[if refused { 4 } else if prefix { 3 } else { smaller }] += 1;
+        if LIMIT < most { pair(t, &first, &second) } else { naive_pair(t, &first, &second) }
     }
-    t.check(seen.iter().all(|&count| count > 0), || format!("equal, first smaller, second, a prefix: {seen:?} pairs"));
+    t.check(seen.iter().all(|&count| count > 0), || format!("equal, first smaller, second, a prefix, refused: {seen:?} pairs"));
 }
 
 /// Words beside themselves, their beginnings and endings, and with a byte changed at the front, inside and at the end.

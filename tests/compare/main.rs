@@ -69,6 +69,7 @@ fn tables_and_refusals(run: &mut Run, r: &mut Random) {
     run.part("wanted tables of up to 257 entries drawn so that they nest, as they are and with an entry changed", |t| {
         wanted::drawn(t, r, 2_000)
     });
+    run.part("two strings compared, literally", comparisons::examples);
     run.part("every two words over two letters to length 7, compared", |t| comparisons::short(t, TWO, 7));
     run.part("every two words over three letters to length 5, compared", |t| comparisons::short(t, THREE, 5));
     run.part("words to 70 bytes that differ at each place, compared", |t| comparisons::places(t, r));

@@ -99,6 +99,7 @@ def listing_cases():
                           ("one group", b"abab", b"0,2,2,6162,0\r\n"),
                           ("the next word a prefix", b"abcab", b"0,3,1,616263,2\r\n3,2,1,6162,0\r\n"),
                           ("each word a prefix of the one before", b"abacaba", b"0,4,1,61626163,2\r\n4,2,1,6162,1\r\n6,1,1,61,0\r\n"),
+                          ("the next word a prefix, twice", b"aabaa", b"0,3,1,616162,1\r\n3,1,2,61,0\r\n"),
                           ("nothing shared", b"cba", b"0,1,1,63,0\r\n1,1,1,62,0\r\n2,1,1,61,0\r\n"),
                           ("a power between", b"acababaa", b"0,2,1,6163,1\r\n2,2,2,6162,1\r\n6,1,2,61,0\r\n")]:
         yield name + ", literally", s, HEADER + want
@@ -112,9 +113,7 @@ def listing_cases():
         yield "random %d" % i, s, listing(s)
 
 
-def edited_cases():
-    rnd = random.Random(6)
-    full = bytes(rnd.randrange(256) for _ in range(LIMIT))
+def edited_literally():
     for name, s, b, row, want in [("joined at both seams", b"aa", b"a", b"1,1", b"0,1,3,61,0\r\n"),
                                   ("joined at both seams, longer words", SHEET, b"abc", b"6,6",
                                    b"0,3,1,616362,1\r\n3,3,3,616263,2\r\n12,4,1,61626163,0\r\n"),
@@ -126,17 +125,26 @@ def edited_cases():
                                    b"0,1,1,63,0\r\n1,1,1,62,0\r\n2,1,1,61,0\r\n"),
                                   ("nothing left", b"ab", b"", b"0,2", b""),
                                   ("the next word a prefix", b"abab", b"c", b"2,2", b"0,3,1,616263,2\r\n3,2,1,6162,0\r\n"),
+                                  ("the next word a prefix, twice", b"aaba", b"a", b"4,4", b"0,3,1,616162,1\r\n3,1,2,61,0\r\n"),
                                   ("shared over both seams", b"abba", b"ab", b"3,3", b"0,3,1,616262,2\r\n3,2,1,6162,1\r\n5,1,1,61,0\r\n"),
                                   ("shared through an empty middle", b"abbaab", b"", b"3,4", b"0,3,1,616262,2\r\n3,2,1,6162,0\r\n"),
                                   ("16,384 equal words over both seams", b"a" * 16128, b"a" * 256, b"12000,12000", b"0,1,16384,61,0\r\n")]:
         yield name, {"pattern.bin": s, "block.bin": b, "edit.csv": EDIT + row + b"\r\n"}, HEADER + want
+
+
+def edited_cases():
+    rnd = random.Random(6)
+    full = bytes(rnd.randrange(256) for _ in range(LIMIT))
+    yield from edited_literally()
     for name, s, b, row in [("P5", SHEET, b"b", b"5,6"), ("P6", SHEET, b"a", b"11,11"), ("P13, leading zeros", b"aba", b"c", b"00003,3"),
                             ("emptied", SHEET, b"", b"0,13"), ("4,097 bytes", full[:4097], b"b", b"4096,4097"),
                             ("full size", full, full[:256], b"15000,15256"), ("to the longest by one byte", full[:-1], b"x", b"16383,16383"),
                             ("4", full, b"xx", b"5,5"), ("4 by one byte", full, b"x", b"16384,16384"), ("2 by one", full, b"", b"16384,16385"),
                             ("3", SHEET, bytes(257), b"0,1"), ("3 before 4", full, bytes(257), b"5,5"), ("2 before 3", SHEET, bytes(257), b"5,4"),
                             ("past the end", SHEET, b"", b"0,14"), ("as many starts as there may be", b"a" * LIMIT, b"", b"0,0"),
-                            ("256 middle groups", b"", bytes(range(255, -1, -1)), b"0,0")]:
+                            ("256 middle groups", b"", bytes(range(255, -1, -1)), b"0,0"),
+                            ("two digits shared", b"a" * 12 + b"c" + b"a" * 12, b"b", b"25,25"),
+                            ("the most shared", b"a" * 8191 + b"c" + b"a" * 8191, b"b", b"16383,16383")]:
         csv = EDIT + row + b"\r\n"
         yield name, {"pattern.bin": s, "block.bin": b, "edit.csv": csv}, edited(s, b, csv)
     yield "1 before 2", {"pattern.bin": full + b"a", "block.bin": b"", "edit.csv": b""}, refused(1)

@@ -1,19 +1,19 @@
 -- The two cases of the answer, by the first refusal that holds; and in the request's words, over every answer that is the contract's: 1 alone
--- exactly where either string is too long, otherwise both numbers by their meaning.
+-- exactly where either string is too long, otherwise the shared length and which is smaller.
 use mathlib.Core.List.{List, [], _∷_}
 use mathlib.Core.Logic.{_⊎_, inl, inr, _↔_}
 use mathlib.Core.Path.{_≡_, refl, sym, ap, _∙_}
 use Prim.Native.Nat.{ℕ, _≤_, _<_}
 use native.Mathlib.Omega.{arith}
 use lib.ListN.{length}
-use Rattle.refusals.specs.Refusals.{maxPattern, patternTooLong}
+use Rattle.refusals.specs.Refusals.{unlessRefused, maxPattern, patternTooLong}
 use Rattle.refusals.proofs.First.{First, first-is, none, too-long, not-long}
 use Rattle.words.specs.Order.{smaller, shared}
 use Rattle.words.proofs.Bounded.{le-or-lt}
 use Rattle.scan.specs.Compared.{compared}
 use Rattle.scan.specs.declared.Compared.{Compared}
 use Rattle.scan.proofs.Decided.{compared-shared, compared-smaller}
-use Rattle.lyndon_compare.specs.Calls.{answerOf, comparison}
+use Rattle.lyndon_compare.specs.Calls.{comparison}
 use Rattle.lyndon_compare.specs.declared.Comparison.{Comparison}
 use Rattle.lyndon_compare.specs.declared.Comparison.the-variants.{Done, Refused}
 
@@ -22,8 +22,10 @@ number (Done c) = 0
 number (Refused k) = k
 
 module _ (a b : List ℕ) where
-  answered : {k : ℕ} → First (patternTooLong a ∷ patternTooLong b ∷ []) k → (c : Compared) → c ≡ compared a b → answerOf k c ≡ comparison a b
-  answered {k} f c e = ap (answerOf k) e ∙ ap (λ n. answerOf n (compared a b)) (sym (first-is f))
+  answered : {k : ℕ} → First (patternTooLong a ∷ patternTooLong b ∷ []) k → (c : Compared) → c ≡ compared a b
+      → unlessRefused k (Done c) (Refused k) ≡ comparison a b
+  answered {k} f c e =
+      ap (λ d. unlessRefused k (Done d) (Refused k)) e ∙ ap (λ n. unlessRefused n (Done (compared a b)) (Refused n)) (sym (first-is f))
 
   pub first-long : maxPattern < length a → Refused 1 ≡ comparison a b
   first-long h = answered (too-long a h) (compared a b) refl
@@ -55,7 +57,7 @@ module _ (a b : List ℕ) where
   numbers c e = go (le-or-lt (length a) maxPattern) (le-or-lt (length b) maxPattern)
     where
       contents : Comparison → Compared
-      contents (Done c) = c
+      contents (Done d) = d
       contents (Refused k) = c
 
       go : (length a ≤ maxPattern) ⊎ (maxPattern < length a) → (length b ≤ maxPattern) ⊎ (maxPattern < length b)

@@ -2,7 +2,7 @@
 use show::calls;
 use show::calls::OLD;
 
-// Every call on one pattern that has refusal 1. Both questions ask for the groups of the whole pattern.
+// Each call of `lyndon`, `lyndon_words` and `lyndon_parts` that has refusal 1. Both questions ask for the groups of the whole pattern.
 fn each_call(pattern: &[u8], table: &mut [u16]) {
     calls::factor(pattern, 4);
     calls::lyndon_array(pattern, 16385);

@@ -1,6 +1,6 @@
-// Runs the public calls on one pattern where they refuse, and next to it: short rows, the empty pattern, positions, wrong tables, repeated
-// words, several refusals at once, the longest patterns, the longest strings compared, wanted tables. It prints as `vectors` does, by `show`,
-// and its file `stdout` was computed in the same way. Edits are left to `vectors`.
+// Runs the public calls but edits, listings and blocks where they refuse, and next to it: short rows, the empty pattern, positions, wrong
+// tables, repeated words, several refusals at once, the longest patterns, the longest strings compared, wanted tables. It prints as `vectors`
+// does, by `show`, and its file `stdout` was computed in the same way.
 mod empty;
 mod limits;
 mod order;

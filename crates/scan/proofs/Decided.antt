@@ -33,16 +33,14 @@ module _ (a b : List ℕ) (k : ℕ) where
       go (inr h) = rw (drop-cons b k 0 h, lt-ltb k (length b) h)
 
   less-ends : k ≤ length a → k ≤ length b → (length a ≤ k) ⊎ (length b ≤ k) → less (drop k a) (drop k b) ≡ ltb (length a) (length b)
-  less-ends h l (inl e) =
-      let q : k ≡ length a = omega arith in
-      less-ends-first e ∙ ap (λ n. ltb n (length b)) q
-  less-ends h l (inr e) = go (le-or-lt (length a) k)
+  less-ends h l e = go (le-or-lt (length a) k) e
     where
-      go : (length a ≤ k) ⊎ (k < length a) → less (drop k a) (drop k b) ≡ ltb (length a) (length b)
-      go (inl d) =
+      go : (length a ≤ k) ⊎ (k < length a) → (length a ≤ k) ⊎ (length b ≤ k) → less (drop k a) (drop k b) ≡ ltb (length a) (length b)
+      go (inl d) e =
           let q : k ≡ length a = omega arith in
           less-ends-first d ∙ ap (λ n. ltb n (length b)) q
-      go (inr d) = less-ends-second d e ∙ sym (le-ltb (length a) (length b) (omega arith))
+      go (inr d) (inl e) = absurd (omega arith)
+      go (inr d) (inr e) = less-ends-second d e ∙ sym (le-ltb (length a) (length b) (omega arith))
 
   less-differ : k < length a → k < length b → (getD a k 0 ≡ getD b k 0 → ⊥) → less (drop k a) (drop k b) ≡ ltb (getD a k 0) (getD b k 0)
   less-differ h l q = go (le-or-lt (getD b k 0) (getD a k 0))

@@ -17,7 +17,7 @@ fn shorter(m: usize, n: usize) -> usize
     if m < n { m } else { n }
 }
 
-// Which of two numbers is smaller: 1 the first, 2 the second, 0 where neither is.
+// Which of two numbers is smaller, as `Compared` has it of strings.
 fn smaller_number(m: usize, n: usize) -> u8
     ensures { λ r. ⌜ r ≡ cond (ltb m n) 1 (cond (ltb n m) 2 0) ⌝ }
 {
@@ -30,7 +30,7 @@ fn smaller_number(m: usize, n: usize) -> u8
     0
 }
 
-// Two strings compared: their shared length, and which is smaller: 1 the first, 2 the second, 0 where neither is.
+// What is told of two strings: their shared length, and which is smaller, 1 the first, 2 the second, 0 where neither is.
 pub struct Compared {
     pub shared: usize,
     pub smaller: u8,

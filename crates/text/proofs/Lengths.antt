@@ -1,24 +1,25 @@
 -- The lengths of words and lines, and of the lines of a pass over the groups.
 use mathlib.Core.List.{List, [], _∷_, _++_}
 use mathlib.Core.Logic.{_⊎_, inl, inr}
-use mathlib.Core.Path.{_≡_, refl, ap, _∙_}
+use mathlib.Core.Path.{_≡_, refl, sym, ap, _∙_}
 use Prim.Native.Nat.{ℕ, _+_, _-_, _*_, _≤_, _<_}
 use native.Mathlib.Nat.{mul-le-mul-right}
 use native.Mathlib.Omega.{arith}
 use lib.ListN.{length, drop, replicate, length-append, length-drop, length-replicate}
 use Rattle.hex.specs.Hex.{pairOf}
-use Rattle.words.specs.Factors.{join, factors, Group}
+use Rattle.words.specs.Factors.{join, factors, Group, wordOf}
 use Rattle.words.specs.Tables.{suffixGroups}
 use Rattle.words.proofs.Bounded.{le-or-lt}
 use Rattle.words.proofs.Factors.{Falling, join-append, join-factors, factors-falling, falling-right}
 use Rattle.words.proofs.EditParts.{end-apart, end-all}
 use Rattle.words.proofs.Groups.{group, Packed, none, more, packed}
+use Rattle.words.proofs.Neighbours.{Standing, behind-stand}
 use Rattle.words.proofs.Repeated.{repeat-length}
 use Rattle.decimal.specs.Decimal.{codes, digitCount, decimal}
 use Rattle.text.specs.Hexadecimal.{hexadecimal}
-use Rattle.text.specs.Listing.{header, field, lastField, wordOf, sharedColumn, line, lines}
+use Rattle.text.specs.Listing.{header, field, lastField, sharedColumn, line, lines}
 use Rattle.decimal.proofs.Decimal.{length-decimal, count-least}
-use Rattle.text.proofs.Column.{joined-behind, first-column}
+use Rattle.text.proofs.Column.{first-column}
 
 pub length-hexadecimal : (w : List ℕ) → length (hexadecimal w) ≡ 2 * length w
 unfolding pairOf
@@ -35,39 +36,39 @@ length-field n = length-append (decimal n) (codes ",") ∙ ap (λ k. k + 1) (len
 pub length-last : (n : ℕ) → length (lastField n) ≡ digitCount n + 3
 length-last n = simp (length-append, length-decimal) (omega arith)
 
-pub line-parts : (start power : ℕ) (word : List ℕ) (shared : ℕ) → length (line start (length word) power word shared)
-    ≡ length (field start) + length (field (length word)) + length (field power) + length (hexadecimal word) + length (lastField shared)
+pub line-parts : (start power : ℕ) (word : List ℕ) (column : ℕ) → length (line start (length word) power word column)
+    ≡ length (field start) + length (field (length word)) + length (field power) + length (hexadecimal word) + length (lastField column)
 unfolding line
-line-parts start power word shared = simp length-append
+line-parts start power word column = simp length-append
 
-length-line : (start size power : ℕ) (word : List ℕ) (shared : ℕ) → length (line start size power word shared)
-    ≡ digitCount start + digitCount size + digitCount power + digitCount shared + 2 * length word + 6
+length-line : (start size power : ℕ) (word : List ℕ) (column : ℕ) → length (line start size power word column)
+    ≡ digitCount start + digitCount size + digitCount power + digitCount column + 2 * length word + 6
 unfolding line
-length-line start size power word shared = simp (length-append, length-decimal, length-hexadecimal) (omega arith)
+length-line start size power word column = simp (length-append, length-decimal, length-hexadecimal) (omega arith)
 
-pub line-counts : (start power : ℕ) (word : List ℕ) (shared : ℕ) → length (line start (length word) power word shared)
-    ≡ length (decimal start) + length (decimal (length word)) + length (decimal power) + length (decimal shared) + 2 * length word + 6
+pub line-counts : (start power : ℕ) (word : List ℕ) (column : ℕ) → length (line start (length word) power word column)
+    ≡ length (decimal start) + length (decimal (length word)) + length (decimal power) + length (decimal column) + 2 * length word + 6
 unfolding line
-line-counts start power word shared = simp (length-append, length-hexadecimal) (omega arith)
+line-counts start power word column = simp (length-append, length-hexadecimal) (omega arith)
 
 -- of e equal factors
 length-joined : (e : ℕ) (f : List ℕ) (fs : List (List ℕ)) → length (join (replicate e f ++ fs)) ≡ e * length f + length (join fs)
 length-joined e f fs =
     ap length (join-append (replicate e f) fs) ∙ length-append (join (replicate e f)) (join fs) ∙ ap (λ n. n + length (join fs)) (repeat-length f e)
 
--- with places, lengths and powers of 16 bits, which have at most five digits: of a word of one byte, two numbers have one
-line-most : (i e : ℕ) (f word : List ℕ) (column : ℕ) → i ≤ 65535 → length f ≤ 65535 → e ≤ 65535 → length word ≤ length f → column < length f
-    → length (line i (length f) e word column) ≤ 20 * length f
-line-most i e f word column h l k w c = go (le-or-lt (length f) 1)
+-- with places, lengths and powers of 16 bits, which have at most five digits; on the line of a word of one byte, length and column have one
+line-most : (i l e : ℕ) (word : List ℕ) (column : ℕ) → i ≤ 65535 → l ≤ 65535 → e ≤ 65535 → length word ≡ l → column < l
+    → length (line i l e word column) ≤ 20 * l
+line-most i l e word column h k m w c = go (le-or-lt l 1)
   where
-    parts : length (line i (length f) e word column) ≤ 10 + digitCount (length f) + digitCount column + 2 * length word + 6
-    parts = omega (arith, length-line i (length f) e word column, count-least i 4 (omega arith), count-least e 4 (omega arith))
+    parts : length (line i l e word column) ≤ 10 + digitCount l + digitCount column + 2 * l + 6
+    parts = omega (arith, length-line i l e word column, count-least i 4 (omega arith), count-least e 4 (omega arith))
 
-    go : (length f ≤ 1) ⊎ (1 < length f) → length (line i (length f) e word column) ≤ 20 * length f
-    go (inl one) = omega (arith, parts, count-least (length f) 0 (omega arith), count-least column 0 (omega arith))
-    go (inr two) = omega (arith, parts, count-least (length f) 4 (omega arith), count-least column 4 (omega arith))
+    go : (l ≤ 1) ⊎ (1 < l) → length (line i l e word column) ≤ 20 * l
+    go (inl one) = omega (arith, parts, count-least l 0 (omega arith), count-least column 0 (omega arith))
+    go (inr two) = omega (arith, parts, count-least l 4 (omega arith), count-least column 4 (omega arith))
 
-packed-bound : (t : List ℕ) {i : ℕ} {fs : List (List ℕ)} {gs : List Group} → Packed i fs gs → Falling fs → join fs ≡ drop i t
+packed-bound : (t : List ℕ) {i : ℕ} {fs : List (List ℕ)} {gs : List Group} → Packed i fs gs → Falling fs → drop i t ≡ join fs
     → length fs ≤ 65535 → i + length (join fs) ≤ 65535 → length (lines t gs) ≤ 20 * length (join fs)
 packed-bound t none a j h l = omega arith
 packed-bound t {i} (more e f fs {gs} n h p) a j k l =
@@ -76,13 +77,14 @@ packed-bound t {i} (more e f fs {gs} n h p) a j k l =
     let one : 1 ≤ e = omega arith in
     let fits : length f ≤ e * length f = omega (arith, mul-le-mul-right (length f) one) in
     let all : length (replicate e f ++ fs) ≡ e + length fs = length-append (replicate e f) fs ∙ ap (λ u. u + length fs) (length-replicate e f) in
-    let column = first-column t g gs (more e f fs n h p) a j in
+    let here : Standing t (g ∷ gs) = record { place = i; words = replicate e f ++ fs; packing = more e f fs n h p; falling = a; stand = j } in
+    let (short, size) = first-column t g gs here in
     omega (
       arith,
       m,
-      packed-bound t p (falling-right (replicate e f) fs a) (joined-behind t i e f fs j) (omega arith) (omega arith),
+      packed-bound t p (falling-right (replicate e f) fs a) (behind-stand t i e f fs j) (omega arith) (omega arith),
       length-append (line i (length f) e (wordOf t g) (sharedColumn t g gs)) (lines t gs),
-      line-most i e f (wordOf t g) (sharedColumn t g gs) (omega arith) (omega arith) (omega arith) (omega (arith, column .1)) (column .0),
+      line-most i (length f) e (wordOf t g) (sharedColumn t g gs) (omega arith) (omega arith) (omega arith) size short,
     )
 
 -- a pattern has no more factors than symbols
@@ -96,5 +98,5 @@ suffix-most s i h l =
     let rest = drop i s in
     let few = factors-few rest in
     let n : length (join (factors rest)) ≡ length s - i = ap length (join-factors rest) ∙ length-drop i s in
-    let bound = packed-bound s (packed i (factors rest)) (factors-falling rest) (join-factors rest) (omega (arith, few, length-drop i s)) (omega (arith, n)) in
+    let bound = packed-bound s (packed i (factors rest)) (factors-falling rest) (sym (join-factors rest)) (omega (arith, few, length-drop i s)) (omega (arith, n)) in
     omega (arith, bound, n)

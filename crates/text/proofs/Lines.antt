@@ -33,13 +33,13 @@ last-put number d i h p₁ p₂ =
     let m = length-append (codes ",") (decimal number) in
     puts-then (puts-then comma p₁ (omega arith)) p₂ (omega (arith, length-decimal number))
 
-pub line-put : (start power : ℕ) (word : List ℕ) (shared : ℕ) (d : List ℕ) (i : ℕ) {b₁ b₂ b₃ b₄ b₅ : List ℕ} {n₁ n₂ n₃ n₄ n₅ : ℕ}
-    → Room (line start (length word) power word shared) i d → Puts (field start) i d b₁ n₁ → Puts (field (length word)) n₁ b₁ b₂ n₂
-    → Puts (field power) n₂ b₂ b₃ n₃ → Puts (hexadecimal word) n₃ b₃ b₄ n₄ → Puts (lastField shared) n₄ b₄ b₅ n₅
-    → Puts (line start (length word) power word shared) i d b₅ n₅
+pub line-put : (start power : ℕ) (word : List ℕ) (column : ℕ) (d : List ℕ) (i : ℕ) {b₁ b₂ b₃ b₄ b₅ : List ℕ} {n₁ n₂ n₃ n₄ n₅ : ℕ}
+    → Room (line start (length word) power word column) i d → Puts (field start) i d b₁ n₁ → Puts (field (length word)) n₁ b₁ b₂ n₂
+    → Puts (field power) n₂ b₂ b₃ n₃ → Puts (hexadecimal word) n₃ b₃ b₄ n₄ → Puts (lastField column) n₄ b₄ b₅ n₅
+    → Puts (line start (length word) power word column) i d b₅ n₅
 unfolding line
-line-put start power word shared d i h p₁ p₂ p₃ p₄ p₅ =
-    let n = line-parts start power word shared in
+line-put start power word column d i h p₁ p₂ p₃ p₄ p₅ =
+    let n = line-parts start power word column in
     let two = field start ++ field (length word) in
     let three = two ++ field power in
     let m₂ = length-append (field start) (field (length word)) in
@@ -56,7 +56,7 @@ part s i j = take (j - i) (drop i s)
 
 -- one turn of a pass over the groups of s: the line of the group at i, whose word is compared with the next one's, and the lines that are left
 module _ {s : List ℕ} {i l e l′ e′ c : ℕ} (g : NextGroup s i l e) (next : GroupFrom s (i + e * l) l′ e′)
-    (compared : c ≡ shared (take l (drop i s)) (take l′ (drop (i + e * l) s))) where
+    (is-shared : c ≡ shared (take l (drop i s)) (take l′ (drop (i + e * l) s))) where
   abbrev word : List ℕ
   word = part s i (i + l)
 
@@ -67,7 +67,7 @@ module _ {s : List ℕ} {i l e l′ e′ c : ℕ} (g : NextGroup s i l e) (next 
   rest = lines s (suffixGroups s (i + e * l))
 
   column : sharedColumn s (group i l e) (suffixGroups s (i + e * l)) ≡ c
-  column = go (le-or-lt (length s) (i + e * l)) ∙ sym compared
+  column = go (le-or-lt (length s) (i + e * l)) ∙ sym is-shared
     where
       go : (length s ≤ i + e * l) ⊎ (i + e * l < length s)
           → sharedColumn s (group i l e) (suffixGroups s (i + e * l)) ≡ shared (take l (drop i s)) (take l′ (drop (i + e * l) s))

@@ -2,10 +2,10 @@
 use mathlib.Core.List.{List, [], _∷_, _++_}
 use mathlib.Core.Path.{_≡_}
 use Prim.Native.Nat.{ℕ, zero, suc}
-use lib.ListN.{length, take, drop}
+use lib.ListN.{length}
 use Rattle.rows.specs.Row.{written}
 use Rattle.words.specs.Order.{shared}
-use Rattle.words.specs.Factors.{Group}
+use Rattle.words.specs.Factors.{Group, wordOf}
 use Rattle.words.specs.Tables.{groups}
 use Rattle.words.specs.Edit.{edited}
 use Rattle.decimal.specs.Decimal.{codes, decimal}
@@ -25,10 +25,6 @@ field n = decimal n ++ codes ","
 abbrev pub lastField : ℕ → List ℕ
 lastField n = codes "," ++ decimal n ++ lineEnd
 
--- The word of a group of factors of t.
-abbrev pub wordOf : List ℕ → Group → List ℕ
-wordOf t g = take (g .size) (drop (g .start) t)
-
 -- The column `shared` of a group that stands before these: the shared length of its word and the next group's word, 0 on the last line.
 abbrev pub sharedColumn : List ℕ → Group → List Group → ℕ
 sharedColumn t g [] = 0
@@ -36,7 +32,7 @@ sharedColumn t g (h ∷ gs) = shared (wordOf t g) (wordOf t h)
 
 -- The line of a group: start, factor length, power, the factor's bytes, and the shared length.
 unfoldable pub line : ℕ → ℕ → ℕ → List ℕ → ℕ → List ℕ
-line start size power word shared = field start ++ field size ++ field power ++ hexadecimal word ++ lastField shared
+line start size power word column = field start ++ field size ++ field power ++ hexadecimal word ++ lastField column
 
 -- The lines of groups of factors of t, in order.
 abbrev pub lines : List ℕ → List Group → List ℕ

@@ -8,7 +8,7 @@ use native.Mathlib.Omega.{arith}
 use lib.ListN.{length, take, drop, length-append}
 use lib.Seq.{take-append-seam, drop-append-seam, drop-drop}
 use Rattle.words.specs.Order.{same}
-use Rattle.words.specs.Factors.{join, factors, startAt, startsWith, Group, withFactor, groupsFrom}
+use Rattle.words.specs.Factors.{join, factors, startAt, startsWith, Group, wordOf, withFactor, groupsFrom}
 use Rattle.words.specs.Tables.{groups}
 use Rattle.words.specs.Edit.{edited, place, kept, resume, middle, middleGroups}
 use Rattle.words.proofs.Factors.{join-append, join-factors}
@@ -16,10 +16,6 @@ use Rattle.words.proofs.Edit.{resumeFactor, kept-first, kept-same, resu
 use Rattle.words.proofs.EditParts.{end-part}
 use Rattle.words.proofs.Groups.{group}
 use Rattle.words.proofs.Order.{same-true}
-
--- The word of a group of factors of t.
-abbrev pub wordOf : List ℕ → Group → List ℕ
-wordOf t g = take (g .size) (drop (g .start) t)
 
 -- A group before others: where its word is that of the first of them, the two are one group with the power of both.
 abbrev pub joinFirst : List ℕ → Group → List Group → List Group
@@ -33,12 +29,12 @@ joinEqual t [] = []
 joinEqual t (g ∷ gs) = joinFirst t g (joinEqual t gs)
 
 -- the strings fs, then gs, stand in t one behind the other from place i on: gs stand where fs end, and the first string stands at i
-others-stand : (t : List ℕ) (i j : ℕ) (fs gs : List (List ℕ)) → i + length (join fs) ≡ j → drop i t ≡ join (fs ++ gs) → drop j t ≡ join gs
+pub others-stand : (t : List ℕ) (i j : ℕ) (fs gs : List (List ℕ)) → i + length (join fs) ≡ j → drop i t ≡ join (fs ++ gs) → drop j t ≡ join gs
 others-stand t i j fs gs e h =
     ap (λ k. drop k t) (sym e) ∙ sym (drop-drop (length (join fs)) i t) ∙ ap (drop (length (join fs))) (h ∙ join-append fs gs)
     ∙ drop-append-seam (join fs) (join gs)
 
-first-stands : (t : List ℕ) (i : ℕ) (f : List ℕ) (fs : List (List ℕ)) → drop i t ≡ f ++ join fs
+pub first-stands : (t : List ℕ) (i : ℕ) (f : List ℕ) (fs : List (List ℕ)) → drop i t ≡ f ++ join fs
     → (take (length f) (drop i t) ≡ f) × (drop (i + length f) t ≡ join fs)
 first-stands t i f fs h =
     (ap (take (length f)) h ∙ take-append-seam f (join fs), sym (drop-drop (length f) i t) ∙ ap (drop (length f)) h ∙ drop-append-seam f (join fs))

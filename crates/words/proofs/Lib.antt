@@ -22,6 +22,7 @@ pub mod Fresh
 pub mod Edit
 pub mod Middle
 pub mod Joined
+pub mod Neighbours
 pub mod Only
 pub mod Theorems
 pub mod Sheet

@@ -8,7 +8,7 @@ use mathlib.Core.Path.{_≡_, refl}
 use Prim.Native.Nat.{ℕ, _+_, _-_, _*_, _^_, _≤_, _<_}
 use lib.ListN.{length, take, drop, getD}
 use Rattle.words.specs.Order.{Less, less, smaller, shared, Lyndon, lyndon}
-use Rattle.words.specs.Factors.{Factorisation, factors, Group, groupsFrom}
+use Rattle.words.specs.Factors.{Factorisation, factors, Group, wordOf, groupsFrom}
 use Rattle.words.specs.Tables.{LyndonAt, longestAt, lyndonArray, lastFactor, lastFactors, longest, longestStarts, longestWord, groups}
 use Rattle.words.specs.Rotation.{rotation, leastRotation, UniqueLeast, Repeated, repeated}
 use Rattle.words.specs.Tree.{split, treeNodes, Node}
@@ -32,12 +32,17 @@ use Rattle.words.proofs.Fresh as fresh
 use Rattle.words.proofs.Edit as edits
 use Rattle.words.proofs.Joined as joined-laws
 use Rattle.words.proofs.Joined.{joinEqual, keptGroups, resumedGroups}
+use Rattle.words.proofs.Neighbours as neighbours
 use Rattle.words.proofs.Only as only-laws
 
 -- the tests agree with the propositions
 pub less-test : (x y : List ℕ) → Less x y ↔ (less x y ≡ true)
 less-test x y = (true-less x y, less-true x y)
 
+pub lyndon-test : (w : List ℕ) → Lyndon w ↔ (lyndon w ≡ true)
+lyndon-test w = (true-lyndon w, lyndon-true w)
+
+-- which of two strings is smaller: what 1, 2 and 0 mean
 pub smaller-first : (a b : List ℕ) → Less a b ↔ (smaller a b ≡ 1)
 smaller-first = shared-laws.smaller-first
 
@@ -46,9 +51,6 @@ smaller-second = shared-laws.smaller-second
 
 pub smaller-neither : (a b : List ℕ) → (a ≡ b) ↔ (smaller a b ≡ 0)
 smaller-neither = shared-laws.smaller-neither
-
-pub lyndon-test : (w : List ℕ) → Lyndon w ↔ (lyndon w ≡ true)
-lyndon-test w = (true-lyndon w, lyndon-true w)
 
 -- the shared length: the first k symbols are a common beginning exactly when k is at most that; it is less than the whole of the greater string
 pub shared-longest : (a b : List ℕ) (k : ℕ) → ((k ≤ length a) × (k ≤ length b) × (take k a ≡ take k b)) ↔ (k ≤ shared a b)
@@ -67,6 +69,15 @@ demand-two s = record { qualities = factorisation s (factors s) .1 refl; only = 
 -- groups: spelled out they are the factors, powers are at least 1, and neighbouring groups have different words; nothing else is so
 pub groups-maximal : (i : ℕ) (fs : List (List ℕ)) (gs : List Group) → Packed i fs gs ↔ (gs ≡ groupsFrom i fs)
 groups-maximal i fs gs = (packed-only, λ e. rw e (packed i fs))
+
+-- of two neighbouring groups the second's word is smaller, and so another one; each word has so many symbols as its group says
+pub next-smaller : (s : List ℕ) (before : List Group) (g h : Group) (after : List Group) → groups s ≡ before ++ g ∷ h ∷ after
+    → Less (wordOf s h) (wordOf s g)
+next-smaller s before g h after e = neighbours.next-smaller (neighbours.standing-behind before (rw e at (neighbours.standing-groups s)))
+
+pub word-size : (s : List ℕ) (before : List Group) (g : Group) (after : List Group) → groups s ≡ before ++ g ∷ after
+    → (0 < g .size) × (length (wordOf s g) ≡ g .size)
+word-size s before g after e = neighbours.word-size (neighbours.standing-behind before (rw e at (neighbours.standing-groups s)))
 
 -- each Lyndon substring lies within one factor
 pub lyndon-within : (s a y c : List ℕ) → s ≡ a ++ (y ++ c) → Lyndon y → Within (factors s) a y c

@@ -51,6 +51,10 @@ pub record Group : Type 0 where
   pub size : ℕ
   pub power : ℕ
 
+-- The word of a group of factors of s.
+abbrev pub wordOf : List ℕ → Group → List ℕ
+wordOf s g = take (g .size) (drop (g .start) s)
+
 abbrev pub startsWith : List ℕ → List (List ℕ) → Bool
 startsWith f [] = false
 startsWith f (g ∷ gs) = same f g
