@@ -108,8 +108,8 @@ pub fn random(t: &mut Tally, r: &mut Random, count: usize) {
         t.origin = format!("random pair {k}: ");
         let [shared, smaller] = fast::compared(&first, &second);
         let prefix = smaller != 0 && shared == first.len().min(second.len());
-        let refused = LIMIT < first.len().max(second.len());
-        seen[if refused { 4 } else if prefix { 3 } else { smaller }] += 1;
+        let kind = if prefix { 3 } else { smaller };
+        seen[if LIMIT < first.len().max(second.len()) { 4 } else { kind }] += 1;
         if LIMIT < most { pair(t, &first, &second) } else { naive_pair(t, &first, &second) }
     }
     t.check(seen.iter().all(|&count| count > 0), || format!("equal, first smaller, second, a prefix, refused: {seen:?} pairs"));
