@@ -24,8 +24,8 @@
 extern "C" {
 #endif
 
-/* The longest pattern, stored or edited, and the longest string of a comparison, the longest block of an edit and the longest word of a tree, in
- * bytes; the longest wanted Lyndon array, in entries. */
+/* The longest pattern, stored or edited, which is also the longest string of a comparison; the longest block of an edit; the longest word of a
+ * tree, in bytes; the longest wanted Lyndon array, in entries. */
 #define LYNDON_MAX_PATTERN 16384
 #define LYNDON_MAX_BLOCK 256
 #define LYNDON_MAX_TREE 256

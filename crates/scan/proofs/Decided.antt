@@ -18,7 +18,7 @@ use Rattle.scan.specs.Compared.{compared}
 use Rattle.scan.specs.declared.Compared.{Compared}
 
 -- which of two numbers is smaller, as `smaller` says it of strings
-abbrev pub smallerNumber : ℕ → ℕ → ℕ
+abbrev smallerNumber : ℕ → ℕ → ℕ
 smallerNumber m n = cond (ltb m n) 1 (cond (ltb n m) 2 0)
 
 module _ (a b : List ℕ) (k : ℕ) where

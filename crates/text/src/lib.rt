@@ -92,7 +92,8 @@ fn line_length(start: usize, power: usize, word: &[u8], shared: usize) -> usize
     digits + 2 * size + 6
 }
 
-// Writes the lines of a pattern's groups from a place on. Each group is found once: as the next one, for its word, and then carried over.
+// Writes the lines of a pattern's groups from a place on. Each group is found once: the first here, every other as the next one, for its word,
+// and then carried over.
 fn write_lines(s: &[u8], from: usize, buffer: &mut [u8], at: usize) -> usize
     requires { ⌜ (from ≤ length (now s)) × Room (lines (now s) (suffixGroups (now s) from)) at (now buffer) ⌝ }
     ensures { λ r. ⌜ Puts (lines (now (s .entry)) (suffixGroups (now (s .entry)) from)) at (now (buffer .entry)) (now (buffer .exit)) r ⌝ }

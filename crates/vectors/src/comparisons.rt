@@ -1,4 +1,5 @@
-// Two strings compared: neighbouring words of a listing, the same string, one that the other begins with, and each place of a first difference.
+// Two strings compared: neighbouring words of a listing, the same string, one that the other begins with, and a first difference at the first
+// byte, in the middle and at the last.
 use show::calls;
 
 // The words of acbabcabcabac, in their order.

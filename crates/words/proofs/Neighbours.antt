@@ -1,4 +1,4 @@
--- Neighbouring groups of a pattern: the word of a group has so many symbols as the group says, at least one, and the word of the next group is
+-- Neighbouring groups of a pattern: the word of a group has as many symbols as the group says, at least one, and the word of the next group is
 -- smaller and another one.
 use mathlib.Core.Bool.{false}
 use mathlib.Core.List.{List, [], _∷_, _++_}
@@ -33,7 +33,7 @@ unfolding groups
 standing-groups s =
     record { place = 0; words = factors s; packing = packed 0 (factors s); falling = factors-falling s; stand = sym (join-factors s) }
 
-pub standing-rest : {t : List ℕ} {g : Group} {gs : List Group} → Standing t (g ∷ gs) → Standing t gs
+standing-rest : {t : List ℕ} {g : Group} {gs : List Group} → Standing t (g ∷ gs) → Standing t gs
 standing-rest {t} r = go _ _ (r .packing) (r .falling) (r .stand)
   where
     go : {i : ℕ} {fs : List (List ℕ)} (g : Group) (gs : List Group) → Packed i fs (g ∷ gs) → Falling fs → drop i t ≡ join fs → Standing t gs

@@ -15,7 +15,7 @@ use Rattle.words.proofs.Bounded.{le-or-lt, largest-le, largest-max, lar
 use Rattle.words.proofs.Order.{less-le, le-refl, le-antisym, le-prefix, less-true, true-less, less-false, false-less, same-true, true-same, same-false}
 
 module _ (a b : List ℕ) where
-  pub shared-left : shared a b ≤ length a
+  shared-left : shared a b ≤ length a
   unfolding shared
   shared-left = omega (arith, largest-le (λ k. same (take k a) (take k b)) (min (length a) (length b)))
 

@@ -70,7 +70,7 @@ demand-two s = record { qualities = factorisation s (factors s) .1 refl; only = 
 pub groups-maximal : (i : ℕ) (fs : List (List ℕ)) (gs : List Group) → Packed i fs gs ↔ (gs ≡ groupsFrom i fs)
 groups-maximal i fs gs = (packed-only, λ e. rw e (packed i fs))
 
--- of two neighbouring groups the second's word is smaller, and so another one; each word has so many symbols as its group says
+-- of two neighbouring groups the second's word is smaller, and so another one; each word has as many symbols as its group says
 pub next-smaller : (s : List ℕ) (before : List Group) (g h : Group) (after : List Group) → groups s ≡ before ++ g ∷ h ∷ after
     → Less (wordOf s h) (wordOf s g)
 next-smaller s before g h after e = neighbours.next-smaller (neighbours.standing-behind before (rw e at (neighbours.standing-groups s)))
