@@ -47,7 +47,7 @@ pub from-fits : {s : List ℕ} {i l e : ℕ} → GroupFrom s i l e → i ≤ len
 from-fits {s} {i} {l} {e} g h = go (le-or-lt (length s) i)
   where
     go : (length s ≤ i) ⊎ (i < length s) → i + l ≤ length s
-    go (inl k) = omega (arith, g .none k)
+    go (inl k) = omega (arith, g .none k .0)
     go (inr k) = omega (arith, length-fits (g .group k), g .group k .fits)
 
 pub length-numbers : (gs : List Group) → length (groupNumbers gs) ≡ 3 * length gs

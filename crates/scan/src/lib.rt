@@ -122,7 +122,7 @@ pub fn next_group(s: &[u8], i: usize) -> Stretch
     }
 }
 
-// The group that starts at a place; at the end of the pattern, where none does, its length is 0.
+// The group that starts at a place; at the end of the pattern and behind it, where none does, zeros.
 pub fn group_from(s: &[u8], i: usize) -> Stretch
     ensures { λ r. ⌜ GroupFrom (now (s .entry)) i (r .length) (r .power) ⌝ }
 {

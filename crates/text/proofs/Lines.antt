@@ -73,7 +73,7 @@ module _ {s : List ℕ} {i l e l′ e′ c : ℕ} (g : NextGroup s i l e) (next 
           → sharedColumn s (group i l e) (suffixGroups s (i + e * l)) ≡ shared (take l (drop i s)) (take l′ (drop (i + e * l) s))
       go (inl h) =
           let z : shared (take l (drop i s)) [] ≡ 0 = omega (arith, shared-right (take l (drop i s)) []) in
-          rw (next .none h) (ap (sharedColumn s (group i l e)) (suffix-end s (i + e * l) h) ∙ sym z)
+          rw (next .none h .0) (ap (sharedColumn s (group i l e)) (suffix-end s (i + e * l) h) ∙ sym z)
       go (inr h) = ap (sharedColumn s (group i l e)) (next .group h .group)
 
   lines-left : lines s (suffixGroups s i) ≡ first ++ rest
