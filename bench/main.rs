@@ -78,13 +78,11 @@ const WORDS: [OfWord; 7] = [
 const AT_START: Call<Stored, EditAnswer> = |s, rows| accepted(engine::edit(&s.at(START), &mut rows.records, &mut rows.starts));
 const IN_MIDDLE: Call<Stored, EditAnswer> = |s, rows| accepted(engine::edit(&s.at(MIDDLE), &mut rows.records, &mut rows.starts));
 const AT_END: Call<Stored, EditAnswer> = |s, rows| accepted(engine::edit(&s.at(END), &mut rows.records, &mut rows.starts));
-const NUMBERS: Call<Stored, EditAnswer> = |s, rows| accepted(engine::edit_numbers(&s.at(MIDDLE), &mut rows.numbers, &mut rows.starts));
 
-const EDITS: [OfEdit; 6] = [
+const EDITS: [OfEdit; 5] = [
     contest("edit, start", AT_START, |s, rows| plain_edit::edit(&s.at(START), &mut rows.records, &mut rows.starts), 1.5),
     contest("edit, middle", IN_MIDDLE, |s, rows| plain_edit::edit(&s.at(MIDDLE), &mut rows.records, &mut rows.starts), 1.5),
     contest("edit, end", AT_END, |s, rows| plain_edit::edit(&s.at(END), &mut rows.records, &mut rows.starts), 1.5),
-    contest("edit_numbers, middle", NUMBERS, |s, rows| plain_edit::edit_numbers(&s.at(MIDDLE), &mut rows.numbers, &mut rows.starts), 1.5),
     contest(
         "edit, middle, one scan",
         IN_MIDDLE,

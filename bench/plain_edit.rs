@@ -1,5 +1,5 @@
 //! The steps of an edit as one writes them in safe Rust: both tables tested, the edited pattern spliced, its factors scanned, both rows written.
-//! `edit` and `edit_numbers` scan as often as the engine; `scanned_once` scans once and keeps the groups, and `trusting` leaves out the tests too.
+//! `edit` scans as often as the engine; `scanned_once` scans once and keeps the groups, and `trusting` leaves out the tests too.
 //! They refuse wrong tables and short rows before they write; the other refusals are left to the engine.
 #![forbid(unsafe_code)]
 use crate::engine::{EditAnswer, Given, Group};
@@ -112,7 +112,12 @@ fn put_starts(groups: impl Iterator<Item = Span>, length: usize, row: &mut [u16]
     }
 }
 
-fn stepwise<T>(e: &Given, middle: &mut [T], starts: &mut [u16], entry: impl Fn([u16; 3]) -> T) -> EditAnswer {
+fn record((start, length, power): Span) -> Group {
+    Group { start: start as u16, length: length as u16, power: power as u16 }
+}
+
+#[inline(never)]
+pub fn edit(e: &Given, middle: &mut [Group], starts: &mut [u16]) -> EditAnswer {
     if !has_tables(e) {
         return refused(5);
     }
@@ -127,25 +132,11 @@ fn stepwise<T>(e: &Given, middle: &mut [T], starts: &mut [u16], entry: impl Fn([
     if middle.len() < count || starts.len() < times {
         return refused(8);
     }
-    for (out, (start, size, power)) in middle.iter_mut().zip(groups(&t[..place], end)) {
-        *out = entry([start as u16, size as u16, power as u16]);
+    for (out, group) in middle.iter_mut().zip(groups(&t[..place], end)) {
+        *out = record(group);
     }
     put_starts(groups(t, 0), length, starts);
     EditAnswer { refusal: 0, kept, resume: e.to + (place - q), groups: count, length, starts: times }
-}
-
-fn record([start, length, power]: [u16; 3]) -> Group {
-    Group { start, length, power }
-}
-
-#[inline(never)]
-pub fn edit(e: &Given, middle: &mut [Group], starts: &mut [u16]) -> EditAnswer {
-    stepwise(e, middle, starts, record)
-}
-
-#[inline(never)]
-pub fn edit_numbers(e: &Given, middle: &mut [u16], starts: &mut [u16]) -> EditAnswer {
-    stepwise(e, middle.as_chunks_mut().0, starts, |numbers| numbers)
 }
 
 /// The part of a group that lies between two ends of factors.
@@ -171,8 +162,8 @@ pub fn trusting(e: &Given, middle: &mut [Group], starts: &mut [u16]) -> EditAnsw
     if middle.len() < count || starts.len() < times {
         return refused(8);
     }
-    for (out, (start, size, power)) in middle.iter_mut().zip(between()) {
-        *out = record([start as u16, size as u16, power as u16]);
+    for (out, group) in middle.iter_mut().zip(between()) {
+        *out = record(group);
     }
     put_starts(all(), length, starts);
     EditAnswer { refusal: 0, kept, resume: e.to + (place - q), groups: count, length, starts: times }

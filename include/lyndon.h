@@ -1,9 +1,10 @@
 /* The pattern engine for C (x86-64 Linux). Two archives have its functions; `rt staticlib NAME` writes libNAME.a to target/staticlib/:
- *   - liblyndon_edit_c.a has the two that answer an edit, lyndon_edit and lyndon_edit_numbers;
+ *   - liblyndon_edit_c.a has lyndon_edit;
  *   - liblyndon_c.a has all others. Neither needs the other, and a program may link both.
  *
- * Every function answers a refusal's number, 0 where nothing is refused: alone, or for an edit in a struct. Bytes compare as unsigned
- * numbers; positions count from 0. Nothing is asked of the values: any pattern, position, table content and length is answered.
+ * Every function but lyndon_longest_word, which has none, answers a refusal's number, 0 where nothing is refused: alone, or for an edit in
+ * a struct. Bytes compare as unsigned numbers; positions count from 0. Nothing is asked of the values: any pattern, position, table content
+ * and length is answered.
  *
  * A slice is two arguments, a pointer to its first entry and its length in entries. What C must see to, since nothing tests it:
  *   - no pointer is NULL, not even with length 0, and each is aligned for its type;
@@ -73,9 +74,9 @@ uint8_t lyndon_realise_array(const uint16_t *wanted, size_t wanted_len, uint8_t 
  * Row: an entry for each start; pattern_len are always enough. Refusals 1, 8. */
 uint8_t lyndon_longest_words(const uint8_t *pattern, size_t pattern_len, uint16_t *starts, size_t starts_len, size_t *size, size_t *count);
 
-/* Copies the first of the longest Lyndon words to `word`, and sets *size to its length. It is empty where the pattern is empty, and
- * where it is too long: that has no number here. Row: a byte for each of the word's; pattern_len are always enough. Refusal 8. */
-uint8_t lyndon_longest_word(const uint8_t *pattern, size_t pattern_len, uint8_t *word, size_t word_len, size_t *size);
+/* Sets *start to where the first of the longest Lyndon words stands in the pattern, and *size to its length. Both are 0 where the pattern is
+ * empty, and where it has over LYNDON_MAX_PATTERN bytes: that has no number here. */
+void lyndon_longest_word(const uint8_t *pattern, size_t pattern_len, size_t *start, size_t *size);
 
 /* Sets *yes to whether the string is a Lyndon word; the empty one is none. Refusal 1. */
 uint8_t lyndon_is_lyndon(const uint8_t *word, size_t word_len, bool *yes);
@@ -129,8 +130,8 @@ typedef struct lyndon_group {
 /* The answer to an edit. Beside a refusal the five numbers are 0. */
 typedef struct lyndon_edit_answer {
     uint8_t refusal;
-    size_t kept;   /* how many leading factors of the stored pattern are the edited one's too; each of them ends at or before `from` */
-    size_t resume; /* a position in the stored pattern, at or after `to`: from there on the factors are those of the stored ending */
+    size_t kept;   /* the largest number of leading factors of the stored pattern that end at or before `from` and are the edited one's too */
+    size_t resume; /* the earliest position in the stored pattern, at or after `to`, from which on the factors are those of the stored ending */
     size_t groups; /* the number of middle groups written: the factors between the kept and the resumed ones, grouped among themselves */
     size_t length; /* the length of the longest Lyndon words in the edited pattern, 0 where it is empty */
     size_t starts; /* the number of their starts written */
@@ -144,12 +145,6 @@ lyndon_edit_answer lyndon_edit(const uint8_t *pattern, size_t pattern_len, const
                                const uint16_t *last_factors, size_t last_factors_len, size_t from, size_t to,
                                const uint8_t *block, size_t block_len, lyndon_group *middle, size_t middle_len,
                                uint16_t *starts, size_t starts_len);
-
-/* The same with the middle groups as numbers. Row `middle`: 3 entries a group, so that 3 * LYNDON_MAX_MIDDLE = 816 are always enough. */
-lyndon_edit_answer lyndon_edit_numbers(const uint8_t *pattern, size_t pattern_len, const uint16_t *lyndon_array, size_t lyndon_array_len,
-                                       const uint16_t *last_factors, size_t last_factors_len, size_t from, size_t to,
-                                       const uint8_t *block, size_t block_len, uint16_t *middle, size_t middle_len,
-                                       uint16_t *starts, size_t starts_len);
 
 #ifdef __cplusplus
 }

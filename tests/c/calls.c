@@ -6,12 +6,12 @@
 
 #define UNSET ((size_t)0xDEADBEEF)
 
-const char *const filling_name[FILLINGS] = { "lyndon_factor",       "lyndon_array", "lyndon_last_factors",  "lyndon_longest_words",
-                                             "lyndon_longest_word", "lyndon_tree",  "lyndon_write_listing", "lyndon_write_block" };
+const char *const filling_name[FILLINGS] = { "lyndon_factor", "lyndon_array",         "lyndon_last_factors", "lyndon_longest_words",
+                                             "lyndon_tree",   "lyndon_write_listing", "lyndon_write_block" };
 const char *const side_name[2] = { "lyndon_factor_prefix", "lyndon_factor_suffix" };
 
 static size_t width(filling call) {
-    return call == LONGEST_WORD || call == LISTING || call == BLOCK ? sizeof(uint8_t) : sizeof(uint16_t);
+    return call == LISTING || call == BLOCK ? sizeof(uint8_t) : sizeof(uint16_t);
 }
 
 static told fill(filling call, bytes w, uint8_t *row, size_t room) {
@@ -27,7 +27,6 @@ static told fill(filling call, bytes w, uint8_t *row, size_t room) {
     case FACTOR: t.refusal = lyndon_factor(w.at, w.n, numbers, room, count); break;
     case ARRAY: t.refusal = lyndon_array(w.at, w.n, numbers, room, count); break;
     case LAST_FACTORS: t.refusal = lyndon_last_factors(w.at, w.n, numbers, room, count); break;
-    case LONGEST_WORD: t.refusal = lyndon_longest_word(w.at, w.n, row, room, count); break;
     case TREE: t.refusal = lyndon_tree(w.at, w.n, numbers, room, count); break;
     case LISTING: t.refusal = lyndon_write_listing(w.at, w.n, row, room, count); break;
     case BLOCK: t.refusal = lyndon_write_block(w.at, w.n, row, room, count); break;
@@ -67,6 +66,13 @@ bool tells_rotation(bytes w, uint8_t refusal, size_t start) {
     size_t got = UNSET;
     uint8_t number = lyndon_least_rotation(pattern.row, w.n, &got);
     return unchanged(pattern, w.at) && number == refusal && got == start;
+}
+
+bool tells_longest_word(bytes w, size_t start, size_t size) {
+    lent pattern = lend_copy(w.at, w.n);
+    size_t got_start = UNSET, got_size = UNSET;
+    lyndon_longest_word(pattern.row, w.n, &got_start, &got_size);
+    return unchanged(pattern, w.at) && got_start == start && got_size == size;
 }
 
 bool compares(bytes first, bytes second, told want) {
@@ -115,13 +121,13 @@ typedef struct {
     lent pattern, array, last, block, middle, starts;
 } rows;
 
-static rows lend_rows(const given *g, size_t middle_bytes, size_t starts_room) {
+static rows lend_rows(const given *g, size_t middle_room, size_t starts_room) {
     return (rows){
         .pattern = lend_copy(g->pattern.at, g->pattern.n),
         .array = lend_copy(g->array.at, g->array.n * sizeof(uint16_t)),
         .last = lend_copy(g->last.at, g->last.n * sizeof(uint16_t)),
         .block = lend_copy(g->block.at, g->block.n),
-        .middle = lend(middle_bytes),
+        .middle = lend(middle_room * sizeof(lyndon_group)),
         .starts = lend(starts_room * sizeof(uint16_t)),
     };
 }
@@ -143,17 +149,10 @@ static bool same_answer(lyndon_edit_answer a, lyndon_edit_answer b) {
 
 #define U16(l) ((uint16_t *)(void *)(l).row)
 
-bool edits_records(const given *g, size_t middle_room, size_t starts_room, const edited *want) {
-    rows l = lend_rows(g, middle_room * sizeof(lyndon_group), starts_room);
+bool answers_edit(const given *g, size_t middle_room, size_t starts_room, const edited *want) {
+    rows l = lend_rows(g, middle_room, starts_room);
     lyndon_group *middle = (lyndon_group *)(void *)l.middle.row;
     lyndon_edit_answer got = lyndon_edit(l.pattern.row, g->pattern.n, U16(l.array), g->array.n, U16(l.last), g->last.n, g->from, g->to,
                                          l.block.row, g->block.n, middle, middle_room, U16(l.starts), starts_room);
-    return hold(l, g, want) && same_answer(got, want->told);
-}
-
-bool edits_numbers(const given *g, size_t middle_room, size_t starts_room, const edited *want) {
-    rows l = lend_rows(g, middle_room * sizeof(uint16_t), starts_room);
-    lyndon_edit_answer got = lyndon_edit_numbers(l.pattern.row, g->pattern.n, U16(l.array), g->array.n, U16(l.last), g->last.n, g->from,
-                                                 g->to, l.block.row, g->block.n, U16(l.middle), middle_room, U16(l.starts), starts_room);
     return hold(l, g, want) && same_answer(got, want->told);
 }

@@ -8,7 +8,7 @@
 #include "lyndon.h"
 
 /* The functions that write one row, by one list of arguments. */
-typedef enum { FACTOR, ARRAY, LAST_FACTORS, LONGEST_WORDS, LONGEST_WORD, TREE, LISTING, BLOCK, FILLINGS } filling;
+typedef enum { FACTOR, ARRAY, LAST_FACTORS, LONGEST_WORDS, TREE, LISTING, BLOCK, FILLINGS } filling;
 
 /* The functions that ask for a table and a position. */
 typedef enum { PREFIX, SUFFIX } side;
@@ -49,7 +49,7 @@ typedef struct {
     bytes block;
 } given;
 
-/* What an edit is to answer; the middle groups are three numbers each for both functions. */
+/* What an edit is to answer; the middle groups are three numbers each, as they lie in a record. */
 typedef struct {
     lyndon_edit_answer told;
     const uint16_t *middle;
@@ -64,6 +64,7 @@ bool fills_any_row(filling call, bytes w, told want, result r);
 
 bool tells_lyndon(bytes w, uint8_t refusal, bool yes);
 bool tells_rotation(bytes w, uint8_t refusal, size_t start);
+bool tells_longest_word(bytes w, size_t start, size_t size);
 
 /* The numbers are the length of the common beginning, and 1 or 2 for the smaller string, 0 for equal ones. */
 bool compares(bytes first, bytes second, told want);
@@ -76,8 +77,7 @@ bool realises(table wanted, size_t room, told want, uint8_t *pattern);
 
 bool takes_part(side s, bytes w, table t, size_t position, size_t room, told want, result r);
 
-/* lyndon_edit with rows of these lengths in entries, and lyndon_edit_numbers. */
-bool edits_records(const given *g, size_t middle_room, size_t starts_room, const edited *want);
-bool edits_numbers(const given *g, size_t middle_room, size_t starts_room, const edited *want);
+/* With rows of these lengths, in records and in starts. */
+bool answers_edit(const given *g, size_t middle_room, size_t starts_room, const edited *want);
 
 #endif

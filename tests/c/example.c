@@ -27,7 +27,6 @@ static void one_row(void) {
         { ARRAY, PATTERN, { 0, { 13, 0 } }, { array, 13 } },
         { LAST_FACTORS, PATTERN, { 0, { 13, 0 } }, { last, 13 } },
         { LONGEST_WORDS, PATTERN, { 0, { 4, 1 } }, { longest, 1 } },
-        { LONGEST_WORD, PATTERN, { 0, { 4, 0 } }, { "abac", 4 } },
         { TREE, LITERAL("aabab"), { 0, { 9, 0 } }, { nodes, 18 } },
         { LISTING, PATTERN, { 0, { sizeof LISTING_TEXT - 1, 0 } }, { LISTING_TEXT, sizeof LISTING_TEXT - 1 } },
         { BLOCK, PATTERN, { 0, { 17, 0 } }, { "#213acbabcabcabac", 17 } },
@@ -35,7 +34,6 @@ static void one_row(void) {
         { ARRAY, LITERAL(""), { 0, { 0, 0 } }, NOTHING },
         { LAST_FACTORS, LITERAL(""), { 0, { 0, 0 } }, NOTHING },
         { LONGEST_WORDS, LITERAL(""), { 0, { 0, 0 } }, NOTHING },
-        { LONGEST_WORD, LITERAL(""), { 0, { 0, 0 } }, NOTHING },
         { LISTING, LITERAL(""), { 0, { 32, 0 } }, { HEADER, 32 } },
         { LISTING, LITERAL("abab"), { 0, { 46, 0 } }, { HEADER "0,2,2,6162,0\r\n", 46 } },
         { LISTING, LITERAL("abcab"), { 0, { 62, 0 } }, { HEADER "0,3,1,616263,2\r\n3,2,1,6162,0\r\n", 62 } },
@@ -59,6 +57,29 @@ static void no_row(void) {
     check(tells_rotation(LITERAL("baab"), 0, 1), "lyndon_least_rotation of baab");
     check(tells_rotation(LITERAL("a"), 0, 0), "lyndon_least_rotation of a");
     check(tells_rotation(LITERAL(""), 0, 0), "lyndon_least_rotation of the empty pattern");
+}
+
+/* Of several longest words the first is told. */
+static void longest_word(void) {
+    const struct {
+        bytes w;
+        size_t start, size;
+    } cases[] = {
+        { PATTERN, 9, 4 },
+        { LITERAL(""), 0, 0 },
+        { LITERAL("a"), 0, 1 },
+        { LITERAL("aa"), 0, 1 },
+        { LITERAL("abab"), 0, 2 },
+        { LITERAL("babab"), 1, 2 },
+        { LITERAL("bacbabcab"), 1, 3 },
+        { LITERAL("baab"), 1, 3 },
+        { LITERAL("aabab"), 0, 5 },
+        { LITERAL("\x7F\x80"), 0, 2 },
+        { LITERAL("\x80\x7F"), 0, 1 },
+    };
+    for (size_t k = 0; k < sizeof cases / sizeof *cases; k++) {
+        check(tells_longest_word(cases[k].w, cases[k].start, cases[k].size), "lyndon_longest_word, case %zu", k);
+    }
 }
 
 static void blocks(void) {
@@ -109,14 +130,10 @@ static void one_edit(size_t from, size_t to, bytes block, edited want) {
     given g = { PATTERN, { array, 13 }, { last, 13 }, from, to, block };
     edited short_of = { .told = { .refusal = 8 } };
     size_t m = want.told.groups, s = want.told.starts;
-    check(edits_records(&g, m, s, &want), "lyndon_edit from %zu", from);
-    check(edits_records(&g, LYNDON_MAX_MIDDLE, 300, &want), "lyndon_edit from %zu, long rows", from);
-    check(edits_numbers(&g, 3 * m, s, &want), "lyndon_edit_numbers from %zu", from);
-    check(edits_numbers(&g, 3 * LYNDON_MAX_MIDDLE, 300, &want), "lyndon_edit_numbers from %zu, long rows", from);
-    check(edits_records(&g, m - 1, s, &short_of), "lyndon_edit from %zu, a record too few", from);
-    check(edits_records(&g, m, s - 1, &short_of), "lyndon_edit from %zu, a start too few", from);
-    check(edits_numbers(&g, 3 * m - 1, s, &short_of), "lyndon_edit_numbers from %zu, a number too few", from);
-    check(edits_numbers(&g, 3 * m, s - 1, &short_of), "lyndon_edit_numbers from %zu, a start too few", from);
+    check(answers_edit(&g, m, s, &want), "lyndon_edit from %zu", from);
+    check(answers_edit(&g, LYNDON_MAX_MIDDLE, 300, &want), "lyndon_edit from %zu, long rows", from);
+    check(answers_edit(&g, m - 1, s, &short_of), "lyndon_edit from %zu, a record too few", from);
+    check(answers_edit(&g, m, s - 1, &short_of), "lyndon_edit from %zu, a start too few", from);
 }
 
 static void edits(void) {
@@ -127,14 +144,14 @@ static void edits(void) {
     one_edit(11, 11, LITERAL("a"), (edited){ put_in, two, many });
     given all_gone = { PATTERN, { array, 13 }, { last, 13 }, 0, 13, LITERAL("") };
     edited nothing = { .told = { .resume = 13 } };
-    check(edits_records(&all_gone, 0, 0, &nothing), "lyndon_edit that empties the pattern");
-    check(edits_numbers(&all_gone, 0, 0, &nothing), "lyndon_edit_numbers that empties the pattern");
+    check(answers_edit(&all_gone, 0, 0, &nothing), "lyndon_edit that empties the pattern");
 }
 
 void test_example(void) {
     part("the worked example, rows exact, longer and too short");
     one_row();
     no_row();
+    longest_word();
     blocks();
     parts();
     edits();

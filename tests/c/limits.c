@@ -38,7 +38,7 @@ static void equal_letters(void) {
     check(fills_any_row(ARRAY, w, (told){ 0, { N, 0 } }, (result){ ones, N }), "lyndon_array of the longest");
     check(fills_any_row(LAST_FACTORS, w, (told){ 0, { N, 0 } }, (result){ ones, N }), "lyndon_last_factors of the longest");
     check(fills_any_row(LONGEST_WORDS, w, (told){ 0, { 1, N } }, (result){ places, N }), "lyndon_longest_words of the longest");
-    check(fills_any_row(LONGEST_WORD, w, (told){ 0, { 1, 0 } }, (result){ "a", 1 }), "lyndon_longest_word of the longest");
+    check(tells_longest_word(w, 0, 1), "lyndon_longest_word of the longest");
     check(fills_any_row(LISTING, w, (told){ 0, { size, 0 } }, (result){ text, size }), "lyndon_write_listing of the longest");
     check(tells_lyndon(w, 0, false), "lyndon_is_lyndon of the longest");
     table t = { ones, N };
@@ -51,8 +51,7 @@ static void equal_letters(void) {
     given g = { w, t, t, 0, LYNDON_MAX_BLOCK, { pattern, LYNDON_MAX_BLOCK } };
     lyndon_edit_answer told = { .kept = 0, .resume = LYNDON_MAX_BLOCK, .groups = 1, .length = 1, .starts = N };
     edited want = { told, middle, places };
-    check(edits_records(&g, 1, N, &want), "lyndon_edit of the longest");
-    check(edits_numbers(&g, 3, N, &want), "lyndon_edit_numbers of the longest");
+    check(answers_edit(&g, 1, N, &want), "lyndon_edit of the longest");
 }
 
 /* All letters but the first are equal, so the least rotation starts behind it. */
@@ -61,6 +60,19 @@ static void longest_rotation(void) {
     memset(pattern, 'a', N);
     pattern[0] = 'b';
     check(tells_rotation((bytes){ pattern, N }, 0, 1), "lyndon_least_rotation of the longest");
+}
+
+/* a .. ab is a Lyndon word; the longest in ba .. ab is all but its first letter, and in b .. bab its last two letters. */
+static void longest_word(void) {
+    static uint8_t pattern[N];
+    bytes w = { pattern, N };
+    memset(pattern, 'a', N);
+    pattern[N - 1] = 'b';
+    check(tells_longest_word(w, 0, N), "lyndon_longest_word, all of the longest");
+    pattern[0] = 'b';
+    check(tells_longest_word(w, 1, N - 1), "lyndon_longest_word, all of the longest but a letter");
+    memset(pattern, 'b', N - 2);
+    check(tells_longest_word(w, N - 2, 2), "lyndon_longest_word, the end of the longest");
 }
 
 /* A block of the longest pattern fits the row that always is enough, and is read again; so is one with all nine digits. */
@@ -106,10 +118,8 @@ static void most_groups(void) {
     given g = { { block, 0 }, { starts, 0 }, { starts, 0 }, 0, 0, { block, LYNDON_MAX_BLOCK } };
     lyndon_edit_answer told = { .groups = LYNDON_MAX_BLOCK, .length = 1, .starts = LYNDON_MAX_BLOCK };
     edited want = { told, middle, starts };
-    check(edits_records(&g, LYNDON_MAX_BLOCK, LYNDON_MAX_BLOCK, &want), "lyndon_edit with 256 groups, exact rows");
-    check(edits_numbers(&g, 3 * LYNDON_MAX_BLOCK, LYNDON_MAX_BLOCK, &want), "lyndon_edit_numbers with 256 groups, exact rows");
-    check(edits_records(&g, LYNDON_MAX_MIDDLE, LYNDON_MAX_BLOCK, &want), "lyndon_edit, LYNDON_MAX_MIDDLE");
-    check(edits_numbers(&g, 3 * LYNDON_MAX_MIDDLE, LYNDON_MAX_BLOCK, &want), "lyndon_edit_numbers, 3 * LYNDON_MAX_MIDDLE");
+    check(answers_edit(&g, LYNDON_MAX_BLOCK, LYNDON_MAX_BLOCK, &want), "lyndon_edit with 256 groups, exact rows");
+    check(answers_edit(&g, LYNDON_MAX_MIDDLE, LYNDON_MAX_BLOCK, &want), "lyndon_edit, LYNDON_MAX_MIDDLE");
 }
 
 /* The listing fits the row that always is enough, and no row shorter than it counts. */
@@ -147,6 +157,7 @@ void test_limits(void) {
     part("the longest inputs, and rows that are always enough");
     equal_letters();
     longest_rotation();
+    longest_word();
     longest_tree();
     most_groups();
     longest_listings();

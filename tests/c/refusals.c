@@ -30,15 +30,21 @@ static void no_table(void) {
         check(fills(calls[k], equal_letters(LONG), 0, REFUSED(1), NOTHING), "%s, 1 before 8", name);
         check(fills(calls[k], equal_letters(2), need[k] - 1, REFUSED(8), NOTHING), "%s, 8", name);
     }
-    check(fills(LONGEST_WORD, equal_letters(LONG), PLENTY, REFUSED(0), NOTHING), "lyndon_longest_word, too long: empty, no number");
-    check(fills(LONGEST_WORD, equal_letters(LONG), 0, REFUSED(0), NOTHING), "lyndon_longest_word, too long, no row");
-    check(fills(LONGEST_WORD, equal_letters(2), 0, REFUSED(8), NOTHING), "lyndon_longest_word, 8");
     check(tells_lyndon(equal_letters(LONG), 1, false), "lyndon_is_lyndon, 1");
     check(tells_rotation(LITERAL("abab"), LYNDON_REPEATED, 0), "lyndon_least_rotation of abab, 10");
     check(tells_rotation(LITERAL("baba"), 10, 0), "lyndon_least_rotation of baba, 10");
     check(tells_rotation(LITERAL("abcabcabc"), 10, 0), "lyndon_least_rotation of abcabcabc, 10");
     check(tells_rotation(equal_letters(LONG - 1), 10, 0), "lyndon_least_rotation of the most equal letters, 10");
     check(tells_rotation(equal_letters(LONG), 1, 0), "lyndon_least_rotation, 1 before 10");
+}
+
+/* Too long for a word, and no number: both numbers are 0, also where the word would not be at the front. */
+static void no_word(void) {
+    uint8_t pattern[LONG];
+    memset(pattern, 'a', LONG);
+    check(tells_longest_word((bytes){ pattern, LONG }, 0, 0), "lyndon_longest_word, too long, equal letters");
+    pattern[0] = pattern[LONG - 1] = 'b';
+    check(tells_longest_word((bytes){ pattern, LONG }, 0, 0), "lyndon_longest_word, too long, ba .. ab");
 }
 
 static void not_blocks(void) {
@@ -141,8 +147,7 @@ static void refused_edits(void) {
         const edit_case *c = &edits[k];
         given g = { equal_letters(c->n), { ones, c->array }, { ones, c->last }, c->from, c->to, { letters, c->block } };
         edited want = { .told = { .refusal = c->number } };
-        check(edits_records(&g, c->middle, c->starts, &want), "lyndon_edit, %u, case %zu", c->number, k);
-        check(edits_numbers(&g, 3 * c->middle, c->starts, &want), "lyndon_edit_numbers, %u, case %zu", c->number, k);
+        check(answers_edit(&g, c->middle, c->starts, &want), "lyndon_edit, %u, case %zu", c->number, k);
     }
 }
 
@@ -155,9 +160,7 @@ static void wrong_entries(void) {
         wrong[k]++;
         given first = { equal_letters(10), { wrong, 10 }, { ones, 10 }, 4, 5, { letters, 2 } };
         given second = { equal_letters(10), { ones, 10 }, { wrong, 10 }, 4, 5, { letters, 2 } };
-        check(edits_records(&first, 300, PLENTY, &want) && edits_records(&second, 300, PLENTY, &want), "lyndon_edit, entry %zu", k);
-        check(edits_numbers(&first, 900, PLENTY, &want) && edits_numbers(&second, 900, PLENTY, &want),
-              "lyndon_edit_numbers, entry %zu", k);
+        check(answers_edit(&first, 300, PLENTY, &want) && answers_edit(&second, 300, PLENTY, &want), "lyndon_edit, entry %zu", k);
     }
 }
 
@@ -165,6 +168,7 @@ void test_refusals(void) {
     prepare();
     part("each refusal of each function, alone and with later ones");
     no_table();
+    no_word();
     not_blocks();
     long_blocks();
     tree();

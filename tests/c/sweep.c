@@ -12,15 +12,18 @@
 static bool fillings(bytes w, const facts *f) {
     char text[(LONGEST + 1) * (2 * LONGEST + 30)];
     size_t size = naive_listing(w, f, text);
-    const uint8_t *word = w.at + (f->starts > 0 ? f->start[0] : 0);
     bool good = fills_any_row(FACTOR, w, (told){ 0, { f->groups, 0 } }, (result){ f->group, 3 * f->groups });
     good = good && fills_any_row(ARRAY, w, (told){ 0, { w.n, 0 } }, (result){ f->array, w.n });
     good = good && fills_any_row(LAST_FACTORS, w, (told){ 0, { w.n, 0 } }, (result){ f->last, w.n });
     good = good && fills_any_row(LONGEST_WORDS, w, (told){ 0, { f->length, f->starts } }, (result){ f->start, f->starts });
-    good = good && fills_any_row(LONGEST_WORD, w, (told){ 0, { f->length, 0 } }, (result){ word, f->length });
     good = good && fills_any_row(LISTING, w, (told){ 0, { size, 0 } }, (result){ text, size });
     if (!f->lyndon) return good && fills(TREE, w, 4 * LONGEST, REFUSED(7), NOTHING);
     return good && fills_any_row(TREE, w, (told){ 0, { f->nodes, 0 } }, (result){ f->node, 2 * f->nodes });
+}
+
+static bool telling(bytes w, const facts *f) {
+    bool good = tells_lyndon(w, 0, f->lyndon) && (f->repeated ? tells_rotation(w, 10, 0) : tells_rotation(w, 0, f->rotation));
+    return good && tells_longest_word(w, f->starts > 0 ? f->start[0] : 0, f->length);
 }
 
 /* The groups of every prefix and every suffix, with exact rows and with none. */
@@ -49,20 +52,19 @@ void test_words(void) {
             facts f = naive_facts(w);
             check(fillings(w, &f), "rows of string %zu of length %zu", number, n);
             check(all_parts(w, &f), "prefixes and suffixes of string %zu of length %zu", number, n);
-            bool told = tells_lyndon(w, 0, f.lyndon) && (f.repeated ? tells_rotation(w, 10, 0) : tells_rotation(w, 0, f.rotation));
-            check(told, "lyndon_is_lyndon or lyndon_least_rotation of string %zu of length %zu", number, n);
+            check(telling(w, &f), "what is told without a row of string %zu of length %zu", number, n);
         }
     }
 }
 
-/* Both functions with exact rows, and with each row one too short. */
+/* With exact rows, and with each row one too short or one longer. */
 static bool one_edit(const given *g) {
     naive_edited e = naive_edit(g->pattern, g->from, g->to, g->block);
     edited want = { e.told, e.middle, e.start }, refused = { .told = { .refusal = 8 } };
     size_t m = e.told.groups, s = e.told.starts;
-    bool good = edits_records(g, m, s, &want) && edits_numbers(g, 3 * m, s, &want);
-    if (m > 0) good = good && edits_records(g, m - 1, s, &refused) && edits_numbers(g, 3 * m - 1, s, &refused);
-    if (s > 0) good = good && edits_records(g, m, s - 1, &refused) && edits_numbers(g, 3 * m, s - 1, &refused);
+    bool good = answers_edit(g, m, s, &want) && answers_edit(g, m + 1, s, &want) && answers_edit(g, m, s + 1, &want);
+    if (m > 0) good = good && answers_edit(g, m - 1, s, &refused);
+    if (s > 0) good = good && answers_edit(g, m, s - 1, &refused);
     return good;
 }
 

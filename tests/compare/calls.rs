@@ -45,7 +45,7 @@ pub fn write_block(t: &mut Tally, w: &[u8]) {
     rows(t, "write_block", w, Want::new(pattern_holds(w.len()), [block.len(), 0], &block), engine::write_block);
 }
 
-/// The calls that write a row and need no table. The trigger word of a pattern too long is empty and has no number.
+/// The calls that write a row and need no table.
 fn writing(t: &mut Tally, w: &[u8], f: &Facts) {
     let n = w.len();
     let holds = pattern_holds(n);
@@ -53,28 +53,30 @@ fn writing(t: &mut Tally, w: &[u8], f: &Facts) {
     rows(t, "lyndon_array", w, Want::new(holds, [n, 0], &f.array), engine::array);
     rows(t, "last_factors", w, Want::new(holds, [n, 0], &f.last), engine::last_factors);
     rows(t, "longest_words", w, Want::new(holds, [f.length, f.starts.len()], &f.starts), engine::longest_words);
-    let first = f.starts.first().map_or(0, |&s| usize::from(s));
-    let word = if holds.none() { &w[first..first + f.length] } else { &[] };
-    rows(t, "longest_word", w, Want::new(Holds::default(), [word.len(), 0], word), engine::longest_word);
     rows(t, "write_listing", w, Want::new(holds, [f.listing.len(), 0], &f.listing), engine::write_listing);
     write_block(t, w);
     rows(t, "tree", w, Want::new(tree_holds(n, f.lyndon), [f.nodes.len() / 2, 0], &f.nodes), engine::tree);
 }
 
-/// A call that tells a number and writes nothing.
-fn tell(t: &mut Tally, name: &str, w: &[u8], holds: Holds, number: usize, call: fn(&[u8]) -> Answer) {
+/// A call that tells one or two numbers and writes no row.
+fn tell(t: &mut Tally, name: &str, w: &[u8], holds: Holds, numbers: [usize; 2], call: fn(&[u8]) -> Answer) {
     let pattern = Lent::holding(w);
-    let right = if holds.none() { (0, [number, 0]) } else { (holds.first(), [0, 0]) };
+    let right = if holds.none() { (0, numbers) } else { (holds.first(), [0, 0]) };
     t.equal(&call(pattern.contents()), &right, || format!("{name} of {}", show(w)));
     t.check(pattern.unchanged(), || format!("{name} of {}: the pattern was changed", show(w)));
 }
 
 pub fn least_rotation(t: &mut Tally, w: &[u8], repeated: bool, mark: usize) {
-    tell(t, "least_rotation", w, mark_holds(w.len(), repeated), mark, engine::least_rotation);
+    tell(t, "least_rotation", w, mark_holds(w.len(), repeated), [mark, 0], engine::least_rotation);
 }
 
+/// The trigger word of a pattern too long is empty and has no number.
 fn telling(t: &mut Tally, w: &[u8], f: &Facts) {
-    tell(t, "is_lyndon", w, pattern_holds(w.len()), usize::from(f.lyndon), engine::is_lyndon);
+    let holds = pattern_holds(w.len());
+    tell(t, "is_lyndon", w, holds, [usize::from(f.lyndon), 0], engine::is_lyndon);
+    let first = f.starts.first().map_or(0, |&s| usize::from(s));
+    let word = if holds.none() { [first, f.length] } else { [0, 0] };
+    tell(t, "longest_word", w, Holds::default(), word, |pattern| (0, engine::longest_word(pattern)));
     least_rotation(t, w, f.repeated, f.mark);
 }
 

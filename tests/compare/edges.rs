@@ -26,11 +26,10 @@ fn says(t: &mut Tally, what: &str, n: usize, got: u8, want: u8) {
     t.equal(&got, &want, || format!("{what}, pattern of {n} bytes"));
 }
 
-/// Both edit calls, with plenty of room.
+/// An edit, with plenty of room.
 fn edit(t: &mut Tally, f: &Facts, g: &Given, want: u8) {
     let mut middle = vec![Group { start: 0, length: 0, power: 0 }; LIMIT + 4];
-    let got = [engine::edit(g, &mut middle, &mut row()).refusal, engine::edit_numbers(g, &mut row(), &mut row()).refusal];
-    t.equal(&got, &[want; 2], || edits::describe(g));
+    t.equal(&engine::edit(g, &mut middle, &mut row()).refusal, &want, || edits::describe(g));
     if g.pattern.len() <= LIMIT + 1 {
         edits::compare(t, &FAST, f, g);
     } else {
@@ -60,9 +59,8 @@ fn pattern(t: &mut Tally, w: &[u8], f: &Facts, want: u8) {
     says(t, "factor_prefix", n, engine::factor_prefix(w, &f.last, 3, &mut row()).0, want);
     says(t, "factor_suffix", n, engine::factor_suffix(w, &f.array, 3, &mut row()).0, want);
     says(t, "tree", n, engine::tree(w, &mut row()).0, 6);
-    let (number, size) = engine::longest_word(w, &mut vec![0; LIMIT + 4]);
-    says(t, "longest_word", n, number, 0);
-    t.check((size[0] == 0) == (want == 1), || format!("longest_word of {n} bytes has {}", size[0]));
+    let word = if want == 0 { [usize::from(f.starts[0]), f.length] } else { [0, 0] };
+    t.equal(&engine::longest_word(w), &word, || format!("longest_word, pattern of {n} bytes"));
     edit(t, f, &whole(w, f, 0, 600, &[]), want);
 }
 
@@ -190,7 +188,6 @@ fn rows(t: &mut Tally) {
     say("lyndon_array", 13, &|row| engine::array(w, row).0);
     say("last_factors", 13, &|row| engine::last_factors(w, row).0);
     say("longest_words", 1, &|row| engine::longest_words(w, row).0);
-    say("longest_word", 4, &|row| engine::longest_word(w, &mut vec![0; row.len()]).0);
     say("write_listing", 82, &|row| engine::write_listing(w, &mut vec![0; row.len()]).0);
     say("write_block", 17, &|row| engine::write_block(w, &mut vec![0; row.len()]).0);
     say("realise_array", 6, &|row| engine::realise_array(&[6, 1, 4, 1, 2, 1], &mut vec![0; row.len()]).0);
@@ -201,8 +198,6 @@ fn rows(t: &mut Tally) {
     let none = Group { start: 0, length: 0, power: 0 };
     say("edit, groups", 2, &|row| engine::edit(&g, &mut vec![none; row.len()], &mut [0; 4]).refusal);
     say("edit, starts", 4, &|row| engine::edit(&g, &mut [none; 2], row).refusal);
-    say("edit_numbers, groups", 6, &|row| engine::edit_numbers(&g, row, &mut [0; 4]).refusal);
-    say("edit_numbers, starts", 4, &|row| engine::edit_numbers(&g, &mut [0; 6], row).refusal);
 }
 
 /// 10: a word twice or three times, or a byte over and over, is refused; once, or with a byte changed, added or taken away, it is not. A word of

@@ -1,9 +1,8 @@
-//! Compares the two calls that answer an edit with what is right.
+//! Compares the call that answers an edit with what is right.
 use crate::engine::{self, EditAnswer, Given, Group};
-use crate::lent::{Entry, Lent, lengths};
-use crate::right::{Edit, Facts, Right, binary_digits, edit_holds, edited, flat};
+use crate::lent::{Lent, lengths};
+use crate::right::{Edit, Facts, Right, binary_digits, edit_holds, edited};
 use crate::tally::{Tally, brief, show};
-use std::fmt::Debug;
 
 /// What an edit is to answer: a refusal's number, or the answer.
 pub type Want<'a> = Result<&'a Edit, u8>;
@@ -50,45 +49,30 @@ impl Read {
     }
 }
 
-type Call<T> = fn(&Given, &mut [T], &mut [u16]) -> EditAnswer;
-
-/// One call. `want` is without regard to the rows; `middle` is its groups as they are to be written.
-fn one<T: Entry + Debug>(t: &mut Tally, g: &Given, call: Call<T>, want: Want, middle: &[T], rows: (usize, usize)) {
+/// One call, with rows of the given lengths, in groups and in starts; `want` is without regard to them.
+pub fn one(t: &mut Tally, g: &Given, want: Want, rows: (usize, usize)) {
     let read = Read::new(g);
-    let (mut row, mut starts) = (Lent::blank(rows.0), Lent::blank(rows.1));
-    let got = call(&read.given(g), row.row(), starts.row());
-    let short = |e: &Edit| rows.0 < middle.len() || rows.1 < e.starts.len();
+    let (mut middle, mut starts) = (Lent::blank(rows.0), Lent::blank(rows.1));
+    let got = engine::edit(&read.given(g), middle.row(), starts.row());
+    let short = |e: &Edit| rows.0 < e.middle.len() || rows.1 < e.starts.len();
     let want = want.and_then(|e| if short(e) { Err(8) } else { Ok(e) });
-    let case = || format!("{}, middle of {}, rows of {rows:?}", describe(g), std::any::type_name::<T>());
+    let case = || format!("{}, rows of {rows:?}", describe(g));
     let unlike = |name: &str, row: String, want: String| format!("{}: {name} {row}, want {want}, the rest as before", case());
     t.equal(&got, &told(want), case);
-    let (groups, places): (&[T], &[u16]) = want.map_or((&[], &[]), |e| (middle, &e.starts));
-    t.check(row.holds(groups), || unlike("middle", brief(row.contents()), brief(groups)));
+    let (groups, places): (&[Group], &[u16]) = want.map_or((&[], &[]), |e| (&e.middle, &e.starts));
+    t.check(middle.holds(groups), || unlike("middle", brief(middle.contents()), brief(groups)));
     t.check(starts.holds(places), || unlike("starts", brief(starts.contents()), brief(places)));
     t.check(read.unchanged(), || format!("{}: what is read was changed", case()));
 }
 
-/// Both calls with rows of the given lengths, in groups and in starts.
-pub fn both(t: &mut Tally, g: &Given, want: Want, groups: usize, starts: usize) {
-    let middle: &[Group] = want.map_or(&[], |e| &e.middle);
-    one(t, g, engine::edit, want, middle, (groups, starts));
-    one(t, g, engine::edit_numbers, want, &flat(middle), (3 * groups, starts));
-}
-
-/// Both calls, the rows of each length worth trying; with a long pattern one of the two is exact.
+/// Rows of each length worth trying; with a long pattern one of the two is exact.
 fn all_rows(t: &mut Tally, g: &Given, want: Want) {
     let (groups, starts) = want.map_or((0, 0), |e| (e.middle.len(), e.starts.len()));
     for s in lengths(starts) {
         for m in lengths(groups) {
             if g.pattern.len() < 1000 || m == groups || s == starts {
-                both(t, g, want, m, s);
+                one(t, g, want, (m, s));
             }
-        }
-    }
-    if let Ok(e) = want {
-        let numbers = flat(&e.middle);
-        for m in lengths(numbers.len()) {
-            one(t, g, engine::edit_numbers, want, &numbers, (m, starts));
         }
     }
 }

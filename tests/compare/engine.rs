@@ -40,8 +40,6 @@ const UNSET: usize = 0xDEAD_BEEF;
 
 type Fill<T> = unsafe extern "C" fn(*const u8, usize, *mut T, usize, *mut usize) -> u8;
 type Part = unsafe extern "C" fn(*const u8, usize, *const u16, usize, *mut u16, usize, usize, *mut usize) -> u8;
-#[rustfmt::skip]
-type Edit<T> = unsafe extern "C" fn(*const u8, usize, *const u16, usize, *const u16, usize, usize, usize, *const u8, usize, *mut T, usize, *mut u16, usize) -> EditAnswer;
 
 // A slice goes as two parameters. Declared as `&[u16]`, `last` of an edit would go astray: Rust passes a pair that no longer fits the registers in memory.
 #[rustfmt::skip]
@@ -51,7 +49,7 @@ unsafe extern "C" {
     fn lyndon_last_factors(pattern: *const u8, pattern_len: usize, table: *mut u16, table_len: usize, count: *mut usize) -> u8;
     fn lyndon_realise_array(wanted: *const u16, wanted_len: usize, pattern: *mut u8, pattern_len: usize, count: *mut usize) -> u8;
     fn lyndon_longest_words(pattern: *const u8, pattern_len: usize, starts: *mut u16, starts_len: usize, size: *mut usize, count: *mut usize) -> u8;
-    fn lyndon_longest_word(pattern: *const u8, pattern_len: usize, word: *mut u8, word_len: usize, size: *mut usize) -> u8;
+    fn lyndon_longest_word(pattern: *const u8, pattern_len: usize, start: *mut usize, size: *mut usize);
     // `yes` is a bool for C; read as a byte, so that another value than 0 and 1 is seen
     fn lyndon_is_lyndon(word: *const u8, word_len: usize, yes: *mut u8) -> u8;
     fn lyndon_least_rotation(pattern: *const u8, pattern_len: usize, start: *mut usize) -> u8;
@@ -67,9 +65,6 @@ unsafe extern "C" {
     fn lyndon_edit(pattern: *const u8, pattern_len: usize, array: *const u16, array_len: usize, last: *const u16, last_len: usize,
                    from: usize, to: usize, block: *const u8, block_len: usize,
                    middle: *mut Group, middle_len: usize, starts: *mut u16, starts_len: usize) -> EditAnswer;
-    fn lyndon_edit_numbers(pattern: *const u8, pattern_len: usize, array: *const u16, array_len: usize, last: *const u16, last_len: usize,
-                           from: usize, to: usize, block: *const u8, block_len: usize,
-                           middle: *mut u16, middle_len: usize, starts: *mut u16, starts_len: usize) -> EditAnswer;
 }
 
 // SAFETY, of each call below: a slice's pointer and length are passed as they are, a `&mut` overlaps nothing, and the engine keeps none of them.
@@ -106,8 +101,11 @@ pub fn longest_words(pattern: &[u8], starts: &mut [u16]) -> Answer {
     (refusal, [size, count])
 }
 
-pub fn longest_word(pattern: &[u8], word: &mut [u8]) -> Answer {
-    fill(lyndon_longest_word, pattern, word)
+/// Start, then size; it answers no refusal's number.
+pub fn longest_word(pattern: &[u8]) -> [usize; 2] {
+    let (mut start, mut size) = (UNSET, UNSET);
+    unsafe { lyndon_longest_word(pattern.as_ptr(), pattern.len(), &mut start, &mut size) };
+    [start, size]
 }
 
 /// 1 for yes, 0 for no.
@@ -165,21 +163,13 @@ pub fn factor_suffix(pattern: &[u8], array: &[u16], start: usize, groups: &mut [
     part(lyndon_factor_suffix, pattern, array, start, groups)
 }
 
-fn answer<T>(call: Edit<T>, g: &Given, middle: &mut [T], starts: &mut [u16]) -> EditAnswer {
+pub fn edit(g: &Given, middle: &mut [Group], starts: &mut [u16]) -> EditAnswer {
     let (array, last, block) = (g.array.as_ptr(), g.last.as_ptr(), g.block.as_ptr());
     let (rows, places) = (middle.as_mut_ptr(), starts.as_mut_ptr());
     #[rustfmt::skip]
     let told = unsafe {
-        call(g.pattern.as_ptr(), g.pattern.len(), array, g.array.len(), last, g.last.len(),
-             g.from, g.to, block, g.block.len(), rows, middle.len(), places, starts.len())
+        lyndon_edit(g.pattern.as_ptr(), g.pattern.len(), array, g.array.len(), last, g.last.len(),
+                    g.from, g.to, block, g.block.len(), rows, middle.len(), places, starts.len())
     };
     told
-}
-
-pub fn edit(given: &Given, middle: &mut [Group], starts: &mut [u16]) -> EditAnswer {
-    answer(lyndon_edit, given, middle, starts)
-}
-
-pub fn edit_numbers(given: &Given, middle: &mut [u16], starts: &mut [u16]) -> EditAnswer {
-    answer(lyndon_edit_numbers, given, middle, starts)
 }

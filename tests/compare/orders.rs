@@ -155,7 +155,7 @@ fn rows(t: &mut Tally, met: &mut Met, g: &Given, f: &Facts, e: Option<&Edit>) {
         let all = holds.and(8, m < groups || s < starts);
         met.insert(all);
         t.edit(all.none());
-        edits::both(t, g, want, m, s);
+        edits::one(t, g, want, (m, s));
     }
 }
 

@@ -30,7 +30,7 @@ pub fn facts(t: &mut Tally, w: &[u8]) -> Facts {
     naive
 }
 
-/// An edit, which both versions and both calls answer.
+/// An edit, which both versions and the call answer.
 pub fn edit(t: &mut Tally, f: &Facts, g: &Given) {
     if edit_holds(g, f).none() {
         let naive = (NAIVE.edit)(g.pattern, g.from, g.to, g.block);

@@ -1,5 +1,5 @@
-//! Whether one of the two exported calls answers as it should, with every entry of both rows as it should be.
-//! Each row is lent out of a longer one, whose rest must stay. How Rust declares and calls them is in ../compare/engine.rs.
+//! Whether `lyndon_edit` answers as it should, with every entry of both rows as it should be.
+//! Each row is lent out of a longer one, whose rest must stay. How Rust declares and calls it is in ../compare/engine.rs.
 use crate::engine::{self, EditAnswer, Given, Group};
 use crate::naive::{self, Answer};
 
@@ -50,19 +50,19 @@ fn flat(want: &Outcome) -> EditAnswer {
     }
 }
 
-/// How many entries lie behind each lent row.
-const BEHIND: usize = 4;
+/// How many entries lie before each lent row, and how many behind it.
+const GUARD: usize = 4;
 
 /// Numbers that no result has in their place.
 fn canaries(room: usize) -> Vec<u16> {
-    (0..room + BEHIND).map(|i| 65000 - (i % 1000) as u16).collect()
+    (0..room + 2 * GUARD).map(|i| 65000 - (i % 1000) as u16).collect()
 }
 
-/// The row with a result at its front, where there is one.
+/// The longer row, with a result at the front of the lent one, where there is one.
 fn after<T: Copy>(row: &[T], result: Option<Vec<T>>) -> Vec<T> {
     let mut row = row.to_vec();
     let result = result.unwrap_or_default();
-    row[..result.len()].copy_from_slice(&result);
+    row[GUARD..GUARD + result.len()].copy_from_slice(&result);
     row
 }
 
@@ -70,27 +70,13 @@ fn starts_after(row: &[u16], want: &Outcome) -> Vec<u16> {
     after(row, want.as_ref().ok().map(|a| a.starts.clone()))
 }
 
-/// `lyndon_edit` with `room` records and `places` starts lent.
-pub fn records_hold(e: &Edit, room: usize, places: usize, want: &Outcome) -> bool {
+/// The call with `room` records and `places` starts lent.
+pub fn holds(e: &Edit, room: usize, places: usize, want: &Outcome) -> bool {
     let group = |g: [u16; 3]| Group { start: g[0], length: g[1], power: g[2] };
     let row: Vec<Group> = canaries(room).iter().map(|&c| group([c, c + 1, c + 2])).collect();
     let mut middle = row.clone();
     let mut starts = canaries(places);
-    let got = engine::edit(&e.given(), &mut middle[..room], &mut starts[..places]);
+    let got = engine::edit(&e.given(), &mut middle[GUARD..GUARD + room], &mut starts[GUARD..GUARD + places]);
     let groups = want.as_ref().ok().map(|a| a.middle.iter().map(|&g| group(g)).collect());
     got == flat(want) && middle == after(&row, groups) && starts == starts_after(&canaries(places), want)
-}
-
-/// `lyndon_edit_numbers` with `room` numbers and `places` starts lent.
-pub fn numbers_hold(e: &Edit, room: usize, places: usize, want: &Outcome) -> bool {
-    let mut middle = canaries(room);
-    let mut starts = canaries(places);
-    let got = engine::edit_numbers(&e.given(), &mut middle[..room], &mut starts[..places]);
-    let groups = want.as_ref().ok().map(|a| a.middle.concat());
-    got == flat(want) && middle == after(&canaries(room), groups) && starts == starts_after(&canaries(places), want)
-}
-
-/// Both calls with the same room.
-pub fn both_hold(e: &Edit, room: usize, places: usize, want: &Outcome) -> bool {
-    records_hold(e, room, places, want) && numbers_hold(e, 3 * room, places, want)
 }

@@ -1,11 +1,11 @@
-//! Tries `lyndon_edit` and `lyndon_edit_numbers` as a Rust program calls them (`calls.rs`), and compares with the trainer's sheet
-//! or with the definitions computed naively (`naive.rs`).
+//! Tries `lyndon_edit` as a Rust program calls it (`calls.rs`), and compares with the trainer's sheet or with the definitions computed
+//! naively (`naive.rs`).
 mod calls;
 #[allow(dead_code)]
 #[path = "../compare/engine.rs"]
 mod engine;
 mod naive;
-use calls::{both_hold, numbers_hold, records_hold, Edit};
+use calls::{Edit, holds};
 use naive::Answer;
 
 #[derive(Default)]
@@ -28,26 +28,25 @@ impl Tally {
     fn accepts(&mut self, name: &str, e: &Edit, want: Answer) {
         let (groups, places) = (want.middle.len(), want.starts.len());
         let want = Ok(want);
-        self.check(name, "exact rows", both_hold(e, groups, places, &want));
-        self.check(name, "longer rows", both_hold(e, groups + 3, places + 5, &want));
-        self.check(name, "a number or two more", (1..3).all(|k| numbers_hold(e, 3 * groups + k, places, &want)));
+        self.check(name, "exact rows", holds(e, groups, places, &want));
+        self.check(name, "longer rows", holds(e, groups + 3, places + 5, &want));
+        self.check(name, "a record or two more", (1..3).all(|k| holds(e, groups + k, places, &want)));
         if groups > 0 {
-            self.check(name, "a record less", records_hold(e, groups - 1, places, &Err(8)));
-            self.check(name, "a number less", numbers_hold(e, 3 * groups - 1, places, &Err(8)));
+            self.check(name, "a record less", holds(e, groups - 1, places, &Err(8)));
         }
         if places > 0 {
-            self.check(name, "a start less", both_hold(e, groups, places - 1, &Err(8)));
+            self.check(name, "a start less", holds(e, groups, places - 1, &Err(8)));
         }
         let mut longer = e.clone();
         longer.array.extend([0, 9]);
         longer.last.extend([7, 0, 65535]);
-        self.check(name, "longer tables", both_hold(&longer, groups, places, &want));
+        self.check(name, "longer tables", holds(&longer, groups, places, &want));
     }
 
     /// A refused edit, with rows that are long enough for any result and with empty ones.
     fn refuses(&mut self, name: &str, e: &Edit, number: u8) {
-        self.check(name, "long rows", both_hold(e, 272, LIMIT, &Err(number)));
-        self.check(name, "empty rows", both_hold(e, 0, 0, &Err(number)));
+        self.check(name, "long rows", holds(e, 272, LIMIT, &Err(number)));
+        self.check(name, "empty rows", holds(e, 0, 0, &Err(number)));
     }
 }
 
@@ -145,7 +144,7 @@ fn refusals(t: &mut Tally) {
         wrong(&format!("entry {i} of the second table more"), &|e| e.last[i] += 1);
         wrong(&format!("entry {i} of the second table less"), &|e| e.last[i] -= 1);
     }
-    t.check("a right edit", "empty rows", both_hold(&right, 0, 0, &Err(8)));
+    t.check("a right edit", "empty rows", holds(&right, 0, 0, &Err(8)));
 }
 
 /// Of several refusals that hold the first is answered: each edit here has all the later ones too.
@@ -160,7 +159,7 @@ fn order(t: &mut Tally) {
         (8, Edit::of_equal(LIMIT, 0, 256, &[b'b'; 256])),
     ];
     for (number, e) in edits {
-        t.check("the first refusal", &number.to_string(), both_hold(&e, 0, 0, &Err(number)));
+        t.check("the first refusal", &number.to_string(), holds(&e, 0, 0, &Err(number)));
     }
 }
 
@@ -182,7 +181,7 @@ fn words(letters: &[u8], n: usize) -> Vec<Vec<u8>> {
 fn sweep(t: &mut Tally) {
     let exact = |e: &Edit| {
         let want = e.answer();
-        both_hold(e, want.middle.len(), want.starts.len(), &Ok(want))
+        holds(e, want.middle.len(), want.starts.len(), &Ok(want))
     };
     for pattern in words(b"ab", 5) {
         let plain = Edit::new(&pattern, 0, 0, b"");

@@ -43,8 +43,10 @@ static void run_longest_words(void) {
     g.refusal = lyndon_longest_words(g.pattern, g.n, g.row, N, &g.size, &g.count);
 }
 
+/* It has no number; no pattern here is empty, so where no word is told the pattern was too long. */
 static void run_longest_word(void) {
-    g.refusal = lyndon_longest_word(g.pattern, g.n, g.text, N, &g.size);
+    lyndon_longest_word(g.pattern, g.n, &g.count, &g.size);
+    g.refusal = g.size > 0 ? LYNDON_ACCEPTED : LYNDON_PATTERN_TOO_LONG;
 }
 
 static void run_is_lyndon(void) {
@@ -92,11 +94,6 @@ static void run_edit(void) {
     g.refusal = g.answer.refusal;
 }
 
-static void run_edit_numbers(void) {
-    g.answer = lyndon_edit_numbers(g.pattern, g.n, g.array, g.n, g.last, g.n, g.from, g.to, g.block, g.block_n, g.row, 3 * N, g.starts, N);
-    g.refusal = g.answer.refusal;
-}
-
 /* A function: the longest string, the most bytes that it may touch, and the most that the longest string may add to those of a short one.
  * Only the tree calls itself: at most once for each letter, with up to 128 bytes. */
 typedef struct {
@@ -122,7 +119,6 @@ static const row rows[] = {
     { "lyndon_read_block", run_read_block, N, 1024, 0 },
     { "lyndon_write_block", run_write_block, N, 1024, 0 },
     { "lyndon_edit", run_edit, N, 24576, 0 },
-    { "lyndon_edit_numbers", run_edit_numbers, N, 24576, 0 },
 };
 
 /* Stretch and block: the pattern's middle, its front, its end and all of it; none, one and 256 bytes, as many of them as fit. */

@@ -20,8 +20,8 @@ use Rattle.words.proofs.Middle.{middle-suffix}
 use Rattle.longest.specs.Best.{longestOf}
 use Rattle.longest.specs.declared.Longest.{Longest}
 use Rattle.seams.proofs.Meets.{edited-short}
-use Rattle.edit.specs.Core.{countsOf}
-use Rattle.edit.specs.Inner.{maxMiddle, roomRefusals, FillsNumbers}
+use Rattle.edit.specs.Core.{countsOf, roomRefusals}
+use Rattle.edit.specs.Inner.{maxMiddle, FillsNumbers}
 use Rattle.seams.specs.Seams.{Accepted, planOf}
 use Rattle.edit.specs.declared.Counts.{Counts}
 use Rattle.edit.specs.declared.Answer.the-variants.{Done, Refused}

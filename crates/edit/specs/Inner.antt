@@ -1,11 +1,9 @@
 -- What `fill`, `count_of` and `edit_core::core` are stated by: the answer with the groups as numbers.
-use mathlib.Core.List.{List, [], _∷_}
+use mathlib.Core.List.{List}
 use Prim.Native.Nat.{ℕ, _+_}
-use lib.ListN.{length}
-use Rattle.refusals.specs.Refusals.{Refusal, maxPattern, maxBlock, tooShort}
-use Rattle.words.specs.Edit.{edited, middleGroups, bits}
+use Rattle.refusals.specs.Refusals.{Refusal, maxPattern, maxBlock}
+use Rattle.words.specs.Edit.{middleGroups, bits}
 use Rattle.words.specs.Factors.{groupNumbers}
-use Rattle.words.specs.Tables.{longestStarts}
 use Rattle.edit.specs.Core.{Fills}
 use Rattle.edit.specs.declared.Answer.{Answer}
 use Rattle.edit.specs.declared.Answer.the-variants.{Done, Refused}
@@ -13,11 +11,6 @@ use Rattle.edit.specs.declared.Answer.the-variants.{Done, Refused}
 -- No accepted edit has more middle groups: demand 3's bound at the limits.
 abbrev pub maxMiddle : ℕ
 maxMiddle = bits maxPattern + maxBlock + 1
-
--- Refusal 8 for both rows: room for the middle groups, and for the starts.
-abbrev pub roomRefusals : List ℕ → ℕ → ℕ → List ℕ → ℕ → ℕ → List Refusal
-roomRefusals s from to b room starts =
-    tooShort (length (middleGroups s from to b)) room ∷ tooShort (length (longestStarts (edited s from to b))) starts ∷ []
 
 -- A call with these refusals that writes the groups as numbers, three each.
 abbrev pub FillsNumbers : List Refusal → List ℕ → ℕ → ℕ → List ℕ → List ℕ → List ℕ → List ℕ → List ℕ → Answer → Type 0

@@ -10,7 +10,8 @@ ghost use mathlib.Core.Path.{_≡_};
 ghost use Prim.Native.Nat.{_*_, _≤_, min};
 ghost use lib.ListN.{length};
 ghost use Rattle.seams.specs.Seams.{Accepted};
-ghost use Rattle.edit.specs.Inner.{countOf, maxMiddle, roomRefusals, FillsNumbers};
+ghost use Rattle.edit.specs.Core.{roomRefusals};
+ghost use Rattle.edit.specs.Inner.{countOf, maxMiddle, FillsNumbers};
 
 // The most middle groups of an accepted edit: the binary digits of MAX_PATTERN, the longest block, and one.
 pub const MAX_MIDDLE: usize = 15 + MAX_BLOCK + 1;

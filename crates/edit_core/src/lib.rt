@@ -1,15 +1,14 @@
-// The answer to one edit of a stored pattern, on rows of plain numbers: the core of the public calls.
-// It tests every refusal before it writes anything; the kind of row that takes the groups is left to the calls.
+// The answer to one edit of a stored pattern, on rows of plain numbers: the core of the public call, of the program `edited` and of the cases of
+// `vectors`. It tests every refusal before it writes anything.
 use cuts::splice;
 use edit::Answer;
 use edit::fill;
 use edit_refusal::refusal;
 use refusals::MAX_PATTERN;
-ghost use mathlib.Core.List.{_++_};
 ghost use Prim.Native.Nat.{_*_, _≤_, min};
 ghost use lib.ListN.{length};
-ghost use Rattle.refusals.specs.Refusals.{editRefusals};
-ghost use Rattle.edit.specs.Inner.{maxMiddle, roomRefusals, FillsNumbers};
+ghost use Rattle.edit.specs.Core.{allRefusals};
+ghost use Rattle.edit.specs.Inner.{maxMiddle, FillsNumbers};
 
 // The answer to an edit, with room for `room` groups. The groups go to `numbers`, three each.
 pub fn core(
@@ -24,7 +23,7 @@ pub fn core(
     starts: &mut [u16],
 ) -> Answer
     requires { ⌜ 3 * min room maxMiddle ≤ length (now numbers) ⌝ }
-    ensures { λ r. ⌜ FillsNumbers (editRefusals (now (pattern .entry)) (now (array .entry)) (now (last .entry)) from to (now (block .entry)) ++ roomRefusals (now (pattern .entry)) from to (now (block .entry)) room (length (now (starts .entry)))) (now (pattern .entry)) from to (now (block .entry)) (now (numbers .entry)) (now (numbers .exit)) (now (starts .entry)) (now (starts .exit)) r ⌝ }
+    ensures { λ r. ⌜ FillsNumbers (allRefusals (now (pattern .entry)) (now (array .entry)) (now (last .entry)) from to (now (block .entry)) room (length (now (starts .entry)))) (now (pattern .entry)) from to (now (block .entry)) (now (numbers .entry)) (now (numbers .exit)) (now (starts .entry)) (now (starts .exit)) r ⌝ }
 {
     let number = refusal(pattern, array, last, from, to, block);
     if number != 0 {

@@ -1,28 +1,31 @@
 -- What is left of an edit that was answered, and of the contents of the three files, is all that is printed.
 use mathlib.Core.List.{List, [], _∷_}
 use mathlib.Core.Path.{_≡_, refl, sym, ap, _∙_}
-use Prim.Native.Nat.{ℕ, zero, suc, _*_, _≤_, _<_}
+use Prim.Native.Nat.{ℕ, zero, suc, _≤_, _<_}
 use native.Mathlib.Omega.{arith}
 use lib.ListN.{length}
-use Rattle.edit.specs.Core.{answerOf, countsOf}
-use Rattle.edit.specs.Inner.{maxMiddle}
+use Rattle.edit.proofs.Answers.{done-accepted}
+use Rattle.edit.specs.Core.{roomRefusals, allRefusals, answerOf, countsOf}
+use Rattle.edit.specs.Inner.{maxMiddle, FillsNumbers}
 use Rattle.edit.specs.declared.Answer.{Answer}
 use Rattle.edit.specs.declared.Answer.the-variants.{Done, Refused}
 use Rattle.edit.specs.declared.Counts.{Counts}
 use Rattle.edit_file.proofs.Only.{edit-only}
 use Rattle.edit_file.specs.EditFile.{EditFile}
 use Rattle.lyndon.specs.Calls.{ArrayMade, LastFactorsMade}
-use Rattle.lyndon_edit.proofs.Answered.{done-accepted}
-use Rattle.lyndon_edit.specs.Calls.{EditsNumbers}
-use Rattle.refusals.proofs.First.{First}
-use Rattle.refusals.specs.Refusals.{firstOf, maxPattern, noStretch, blockTooLong, editedTooLong}
+use Rattle.edit_refusal.proofs.Passed.{passed-shape}
+use Rattle.edit_refusal.proofs.Refused.{Shaped}
+use Rattle.refusals.proofs.First.{First, first-zero}
+use Rattle.refusals.specs.Refusals.{editRefusals, firstOf, maxPattern, noStretch, blockTooLong, editedTooLong}
 use Rattle.refusals.specs.declared.Filled.{Filled}
-use Rattle.text.proofs.Lines.{refusal-room}
+use Rattle.text.proofs.Lines.{refusal-room, listing-room}
 use Rattle.text.proofs.Begins.{puts-begins}
 use Rattle.text.specs.Inner.{maxListing}
 use Rattle.text.specs.Listing.{editedText, refusalText, printed}
 use Rattle.rows.specs.Written.{Room, Puts}
+use Rattle.words.proofs.Edit.{length-edited}
 use Rattle.words.proofs.Tables.{lyndon-array-length, last-factors-length}
+use Rattle.words.specs.Edit.{edited}
 use Rattle.words.specs.Tables.{lyndonArray, lastFactors}
 use Rattle.edited.specs.Output.{editOutput, Prints}
 use Rattle.edited.specs.Refusal.{refusalIn}
@@ -40,9 +43,10 @@ line-printed zero c text {r} {k} e q = absurd (omega (arith, ap isDone (sym e �
     isDone (Refused k) = 0
 line-printed (suc m) c text e q = ap (λ x. refusalText (refusalIn x)) (sym e)
 
-module _ (s : List ℕ) {a₀ array : List ℕ} {ra : Filled} {l₀ last : List ℕ} {rl : Filled} (from to : ℕ) (b : List ℕ) {row row′ starts starts′ : List ℕ}
+module _ (s : List ℕ) {a₀ array : List ℕ} {ra : Filled} {l₀ last : List ℕ} {rl : Filled} (from to : ℕ) (b : List ℕ) {room : ℕ} {row row′ starts starts′ : List ℕ}
     {r : Answer} (h : length s ≤ maxPattern) (made : ArrayMade s a₀ array ra) (array-room : maxPattern ≤ length a₀) (made-last : LastFactorsMade s l₀ last rl)
-    (last-room : maxPattern ≤ length l₀) (e : EditsNumbers s array last from to b row row′ starts starts′ r) (middle-room : 3 * maxMiddle ≤ length row)
+    (last-room : maxPattern ≤ length l₀)
+    (e : FillsNumbers (allRefusals s array last from to b room (length starts)) s from to b row row′ starts starts′ r) (middle-room : maxMiddle ≤ room)
     (starts-room : maxPattern ≤ length starts) where
   abbrev number : ℕ
   number = firstOf (noStretch s from to ∷ blockTooLong b ∷ editedTooLong s from to b ∷ [])
@@ -51,8 +55,8 @@ module _ (s : List ℕ) {a₀ array : List ℕ} {ra : Filled} {l₀ last : List 
   answers =
       let tables = right s (lyndonArray s) a₀ h (lyndon-array-length s) array-room made
       (right s (lastFactors s) l₀ h (last-factors-length s) last-room made-last First.none) in
-      e .fills .answers
-      ∙ ap (λ k. answerOf k (countsOf s from to b)) (settled s array last from to b row starts h tables middle-room starts-room)
+      e .answers
+      ∙ ap (λ k. answerOf k (countsOf s from to b)) (settled s array last from to b room starts h tables middle-room starts-room)
 
   pub refused-output : {k m n : ℕ} {d d′ : List ℕ} → r ≡ Refused k → m ≡ refusalIn r → Puts (refusalText m) 0 d d′ n
       → Puts (editOutput s from to b) 0 d d′ n
@@ -62,6 +66,20 @@ module _ (s : List ℕ) {a₀ array : List ℕ} {ra : Filled} {l₀ last : List 
   pub edited-output : {c : Counts} {n : ℕ} {d d′ : List ℕ} → r ≡ Done c → Puts (editedText s from to b) 0 d d′ n → Puts (editOutput s from to b) 0 d d′ n
   unfolding editOutput
   edited-output {c} q p = rw (done-accepted number (countsOf s from to b) c (sym answers ∙ q) .0) p
+
+  -- what the writer of the edited listing asks of an accepted edit
+  shape : {c : Counts} → r ≡ Done c → Shaped s from to b
+  shape {c} q =
+      let rs = allRefusals s array last from to b room (length starts) in
+      let none : firstOf rs ≡ 0 = done-accepted (firstOf rs) (countsOf s from to b) c (sym (e .answers) ∙ q) .0 in
+      passed-shape s array last from to b refl (first-zero (editRefusals s array last from to b) (roomRefusals s from to b room (length starts)) none)
+
+  pub taken : {c : Counts} (d : List ℕ) → r ≡ Done c → maxListing ≤ length d
+      → (from ≤ to) × (to ≤ length s) × (length (edited s from to b) ≤ maxPattern) × Room (editedText s from to b) 0 d
+  taken d q k =
+      let p = shape q in
+      let fits : length (edited s from to b) ≤ maxPattern = omega (arith, length-edited s from to b (p .start) (p .stretch), p .fits) in
+      (p .start, p .stretch, fits, omega (arith, listing-room (edited s from to b) fits))
 
 -- the three cases of the files
 module _ (s b csv : List ℕ) {d d′ : List ℕ} {n : ℕ} where

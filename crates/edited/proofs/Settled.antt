@@ -2,12 +2,13 @@
 use mathlib.Core.Bool.{Bool, true, false, cond}
 use mathlib.Core.List.{List, [], _∷_, _++_}
 use mathlib.Core.Path.{_≡_, refl, sym, ap, _∙_}
-use Prim.Native.Nat.{ℕ, zero, suc, _+_, _*_, _≤_}
+use Prim.Native.Nat.{ℕ, zero, suc, _≤_}
 use native.Mathlib.Omega.{arith}
 use lib.ListN.{length, take, drop, length-append}
 use lib.Seq.{take-at}
 use borrow.Author.Tests.{le-ltb}
 use Rattle.edit.proofs.Filled.{middle-few}
+use Rattle.edit.specs.Core.{roomRefusals, allRefusals}
 use Rattle.edit.specs.Inner.{maxMiddle}
 use Rattle.edit_refusal.proofs.Passed.{passed-shape}
 use Rattle.refusals.proofs.First.{first-earlier, first-later, First, first-is, first-passes, not-long, not-short, table-right}
@@ -15,13 +16,11 @@ use Rattle.edit_refusal.proofs.Refused.{Shaped}
 use Rattle.refusals.specs.Filled.{Fills}
 use Rattle.refusals.specs.declared.Filled.{Filled}
 use Rattle.refusals.specs.Refusals.{editRefusals, Refusal, firstOf, rowAfter, maxPattern, patternTooLong, noStretch, blockTooLong, editedTooLong, notTable, tooShort}
-use Rattle.scan.proofs.Pass.{length-numbers}
 use Rattle.words.proofs.Bounded.{length-table}
 use Rattle.words.proofs.Edit.{length-edited}
 use Rattle.words.proofs.Order.{same-refl}
 use Rattle.words.specs.Bounded.{select, table}
-use Rattle.words.specs.Edit.{edited, middleGroups}
-use Rattle.words.specs.Factors.{groupNumbers}
+use Rattle.words.specs.Edit.{edited}
 use Rattle.words.specs.Order.{same}
 use Rattle.words.specs.Tables.{lyndonArray, lastFactors, lyndonAt, lyndonStarts, longest, longestStarts}
 
@@ -56,7 +55,7 @@ module _ (s out row : List ℕ) {row′ : List ℕ} {r : Filled} (h : length s �
   pub right : {rs : List Refusal} {k : ℕ} → First rs k → First (notTable out row′ ∷ rs) k
   right f = table-right out row′ (length s) size made-long made-same f
 
-module _ (s array last : List ℕ) (from to : ℕ) (b row starts : List ℕ) where
+module _ (s array last : List ℕ) (from to : ℕ) (b : List ℕ) (room : ℕ) (starts : List ℕ) where
   abbrev shape : List Refusal
   shape = noStretch s from to ∷ blockTooLong b ∷ editedTooLong s from to b ∷ []
 
@@ -64,30 +63,27 @@ module _ (s array last : List ℕ) (from to : ℕ) (b row starts : List ℕ) whe
   tables = notTable (lyndonArray s) array ∷ notTable (lastFactors s) last ∷ []
 
   abbrev rooms : List Refusal
-  rooms =
-      tooShort (length (groupNumbers (middleGroups s from to b))) (length row)
-      ∷ tooShort (length (longestStarts (edited s from to b))) (length starts) ∷ []
+  rooms = roomRefusals s from to b room (length starts)
 
-  module _ (h : length s ≤ maxPattern) (right-tables : First tables 0) (middle-room : 3 * maxMiddle ≤ length row) (starts-room : maxPattern ≤ length starts) where
+  module _ (h : length s ≤ maxPattern) (right-tables : First tables 0) (middle-room : maxMiddle ≤ room) (starts-room : maxPattern ≤ length starts) where
     past-first : (rs : List Refusal) → firstOf (patternTooLong s ∷ rs) ≡ firstOf rs
     past-first rs = first-passes (patternTooLong s) rs (le-ltb maxPattern (length s) h)
 
     room-left : Shaped s from to b → firstOf rooms ≡ 0
     room-left p =
-        let n = length-numbers (middleGroups s from to b) in
         let m = length-edited s from to b (p .start) (p .stretch) in
         first-is
-        (not-short _ (length row) (omega (arith, n, middle-few s from to b (p .start) (p .stretch) (p .pattern) (p .block)))
+        (not-short _ room (omega (arith, middle-few s from to b (p .start) (p .stretch) (p .pattern) (p .block)))
         (not-short _ (length starts) (omega (arith, starts-few (edited s from to b), m, p .fits)) First.none))
 
     passed : firstOf shape ≡ 0 → firstOf (editRefusals s array last from to b) ≡ 0
     passed e =
         past-first (shape ++ tables) ∙ first-later shape tables (omega arith, (omega arith, (omega arith, tt))) e ∙ first-is right-tables
 
-    pub settled : firstOf (editRefusals s array last from to b ++ rooms) ≡ firstOf shape
+    pub settled : firstOf (allRefusals s array last from to b room (length starts)) ≡ firstOf shape
     settled = go (firstOf shape) refl
       where
-        go : (k : ℕ) → firstOf shape ≡ k → firstOf (editRefusals s array last from to b ++ rooms) ≡ firstOf shape
+        go : (k : ℕ) → firstOf shape ≡ k → firstOf (allRefusals s array last from to b room (length starts)) ≡ firstOf shape
         go zero e =
             first-later (editRefusals s array last from to b) rooms
             (omega arith, (omega arith, (omega arith, (omega arith, (omega arith, (omega arith, tt)))))) (passed e)

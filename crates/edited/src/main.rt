@@ -3,13 +3,13 @@
 // the bytes that were read is made and proved in `write_output`; `main` reads and writes.
 use edit::Answer;
 use edit::MAX_MIDDLE;
+use edit_core::core;
 use edit_file::Parsed;
 use edit_file::parse;
 use edited_text::write_edited;
 use libc::STDOUT_FILENO;
 use lyndon::last_factors;
 use lyndon::lyndon_array;
-use lyndon_edit::edit_numbers;
 use refusals::MAX_BLOCK;
 use refusals::MAX_PATTERN;
 use text::MAX_LISTING;
@@ -65,13 +65,14 @@ fn write_answer(pattern: &[u8], from: usize, to: usize, block: &[u8], text: &mut
     last_factors(pattern, &mut last);
     let mut middle = [0u16; 3 * MAX_MIDDLE];
     let mut starts = [0u16; MAX_PATTERN];
-    let answer = edit_numbers(
+    let answer = core(
         pattern,
         &array,
         &last,
         from,
         to,
         block,
+        MAX_MIDDLE,
         &mut middle,
         &mut starts,
     );

@@ -1,7 +1,7 @@
 // The calls of `lyndon`, `lyndon_words`, `lyndon_compare`, `lyndon_parts`, `lyndon_text` and `block` under C names, on numbers and slices:
-// the answer is the refusal's number, and what else is told goes through `&mut`. Each body is the call and the taking apart of its answer;
-// include/lyndon.h declares them. Slices stand before numbers in every list of parameters: a slice that got the last register and a place
-// on the stack would not be found where Rust puts one.
+// the answer is the refusal's number, where the call has one, and what else is told goes through `&mut`. Each body is the call and the taking
+// apart of its answer; include/lyndon.h declares them. Slices stand before numbers in every list of parameters: a slice that got the last
+// register and a place on the stack would not be found where Rust puts one.
 use block::read_block;
 use block::write_block;
 use lyndon::factor;
@@ -14,17 +14,15 @@ use lyndon_parts::factor_suffix;
 use lyndon_text::write_listing;
 use lyndon_words::is_lyndon;
 use lyndon_words::least_rotation;
-use lyndon_words::longest_word;
+use lyndon_words::longest_word_place;
 use lyndon_words::longest_words;
-use rows::write_bytes;
 ghost use mathlib.Core.Path.{_≡_};
 ghost use Rattle.lyndon.specs.Calls.{Factored, ArrayMade, LastFactorsMade, ArrayRealised};
-ghost use Rattle.lyndon_words.specs.Calls.{StartsListed, wordPart, LyndonTold, RotationFound, TreeListed};
+ghost use Rattle.lyndon_words.specs.Calls.{StartsListed, wordPlace, LyndonTold, RotationFound, TreeListed};
 ghost use Rattle.lyndon_compare.specs.Calls.{comparison};
 ghost use Rattle.lyndon_parts.specs.Calls.{PrefixFactored, SuffixFactored};
 ghost use Rattle.lyndon_text.specs.Calls.{ListingWritten};
 ghost use Rattle.block.specs.Calls.{BlockRead, BlockWritten};
-ghost use Rattle.lyndon_c.specs.Copied.{Copied};
 ghost use Rattle.lyndon_c.specs.Flat.{flatOf};
 
 #[no_mangle]
@@ -78,24 +76,14 @@ pub extern "C" fn lyndon_longest_words(
     answer.refusal
 }
 
-// Copies a part to the front of a buffer, and answers 8 where the buffer is shorter.
-fn copy(part: &[u8], buffer: &mut [u8], size: &mut usize) -> u8
-    ensures { λ r. ⌜ Copied (now (part .entry)) (now (buffer .entry)) (now (buffer .exit)) (record { refusal = r; count = now (size .exit) }) ⌝ }
-{
-    if buffer.len() < part.len() {
-        *size = 0;
-        return 8;
-    }
-    *size = write_bytes(part, buffer, 0);
-    0
-}
-
-// The part is copied to a buffer of the caller's, since a reference is no answer for C.
+// A reference is no answer for C, which gets the part's place in its pattern.
 #[no_mangle]
-pub extern "C" fn lyndon_longest_word(pattern: &[u8], word: &mut [u8], size: &mut usize) -> u8
-    ensures { λ r. ⌜ Copied (wordPart (now (pattern .entry))) (now (word .entry)) (now (word .exit)) (record { refusal = r; count = now (size .exit) }) ⌝ }
+pub extern "C" fn lyndon_longest_word(pattern: &[u8], start: &mut usize, size: &mut usize)
+    ensures { λ _. ⌜ (now (start .exit), now (size .exit)) ≡ wordPlace (now (pattern .entry)) ⌝ }
 {
-    copy(longest_word(pattern), word, size)
+    let word = longest_word_place(pattern);
+    *start = word.start;
+    *size = word.length;
 }
 
 #[no_mangle]

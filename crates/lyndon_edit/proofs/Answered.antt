@@ -1,100 +1,140 @@
--- Both calls from what the core ensures: the groups read off the rows are the middle groups, so the numbers and the rows are the defined
+-- The call from what the core and the storing ensure: the stored records are the middle groups, so the numbers and the rows are the defined
 -- answer, of which demand 3 holds.
-use mathlib.Core.List.{List, [], _∷_, _++_}
+use mathlib.Core.List.{List, [], _∷_, _++_, map}
 use mathlib.Core.Logic.{_⊎_, inl, inr}
 use mathlib.Core.Path.{_≡_, refl, sym, ap, subst, _∙_}
-use Prim.Native.Nat.{ℕ, zero, suc, _/_, _≤_, _<_}
+use Prim.Native.Nat.{ℕ, zero, suc, _*_, _≤_, _<_}
 use native.Mathlib.Omega.{arith}
-use lib.Dec.{ltb}
-use lib.ListN.{length, take, drop}
-use lib.Seq.{take-append-seam}
-use borrow.Author.Tests.{lt-ltb, le-ltb}
-use Rattle.edit_refusal.proofs.Passed.{passed-shape}
-use Rattle.refusals.proofs.First.{first-later, first-zero}
-use Rattle.edit.specs.Core.{countsOf, answerOf}
-use Rattle.refusals.specs.Refusals.{editRefusals, Refusal, firstOf, rowAfter, tooShort}
-use Rattle.edit.specs.Inner.{roomRefusals, FillsNumbers}
+use lib.ListN.{length, take, drop, length-append, length-map}
+use lib.Seq.{take-at, take-append-seam}
+use borrow.Author.Tests.{lt-ltb}
+use Rattle.edit.proofs.Answers.{done-accepted}
+use Rattle.edit.specs.Core.{countsOf, roomRefusals, allRefusals, answerOf}
+use Rattle.edit.specs.Inner.{countOf, FillsNumbers}
 use Rattle.edit.specs.declared.Answer.{Answer}
 use Rattle.edit.specs.declared.Answer.the-variants.{Done}
 use Rattle.edit.specs.declared.Counts.{Counts}
+use Rattle.edit_refusal.proofs.Passed.{passed-shape}
+use Rattle.records.specs.declared.Group.{Group}
+use Rattle.records.specs.Groups.{groupsOf, filled}
+use Rattle.refusals.specs.Refusals.{editRefusals, Refusal, firstOf, rowAfter, tooShort}
+use Rattle.refusals.proofs.First.{first-holds, first-later, first-zero}
 use Rattle.rows.specs.Row.{written}
 use Rattle.scan.proofs.Pass.{length-numbers}
-use Rattle.words.proofs.Bounded.{le-or-lt}
-use Rattle.words.proofs.Edit.{demand-three}
-use Rattle.words.specs.Demand.{DemandThree}
-use Rattle.words.specs.Edit.{edited, middleGroups}
 use Rattle.words.proofs.Answer.{answer}
-use Rattle.words.specs.Factors.{Group, groupNumbers}
-use Rattle.words.specs.Tables.{longestStarts}
-use Rattle.lyndon_edit.specs.Calls.{answerIn, numberGroups, allRefusals, EditsNumbers}
-
--- the groups read off a row of numbers
-pub number-groups : (gs : List Group) (rest : List ℕ) → numberGroups (length gs) (groupNumbers gs ++ rest) ≡ gs
-number-groups [] rest = refl
-number-groups (g ∷ gs) rest = ap {B = List Group} (λ t. g ∷ t) (number-groups gs rest)
-
--- an answer with numbers was not refused
-pub done-accepted : (k : ℕ) (a c : Counts) → answerOf k a ≡ Done c → (k ≡ 0) × (a ≡ c)
-done-accepted zero a c e = (refl, cc)
-done-accepted (suc k) a c e = let z : _≡_ {A = ℕ} 0 1 = cc in absurd (omega arith)
+use Rattle.words.proofs.Bounded.{le-or-lt}
+use Rattle.words.proofs.Demand.{demand-three}
+use Rattle.words.specs.Demand.{DemandThree}
+use Rattle.words.specs.Edit.{edited, kept, resume, middleGroups}
+use Rattle.words.specs.Factors as factors
+use Rattle.words.specs.Tables.{longest, longestStarts}
+use Rattle.lyndon_edit.specs.Calls.{groupOf, recordOf, EditAnswered}
 
 module _ (s array last : List ℕ) (from to : ℕ) (b : List ℕ) where
   -- where no refusal holds, none of those tested later does
-  pub later-passed : (later : List Refusal) → firstOf (editRefusals s array last from to b ++ later) ≡ 0 → firstOf later ≡ 0
+  later-passed : (later : List Refusal) → firstOf (editRefusals s array last from to b ++ later) ≡ 0 → firstOf later ≡ 0
   later-passed later e =
       sym (first-later (editRefusals s array last from to b) later
       (omega arith, (omega arith, (omega arith, (omega arith, (omega arith, (omega arith, tt))))))
       (first-zero (editRefusals s array last from to b) later e)) ∙ e
 
   -- demand 3 of the numbers and of what the rows hold
-  pub demand-answered : (later : List Refusal) → firstOf (editRefusals s array last from to b ++ later) ≡ 0 → (groups : List Group) (starts : List ℕ)
+  demand-answered : (later : List Refusal) → firstOf (editRefusals s array last from to b ++ later) ≡ 0 → (groups : List factors.Group) (starts : List ℕ)
       → groups ≡ middleGroups s from to b → (rest : List ℕ) → starts ≡ longestStarts (edited s from to b) ++ rest
-      → DemandThree s from to b (answerIn (countsOf s from to b) groups starts)
-  unfolding countsOf answer
+      → DemandThree s from to b (kept s from to b) (resume s from to b) (length (middleGroups s from to b)) (longest (edited s from to b))
+      (length (longestStarts (edited s from to b))) groups (take (length (longestStarts (edited s from to b))) starts)
+  unfolding answer
   demand-answered later e groups starts g rest w =
       let shape = passed-shape s array last from to b {n = 0} (sym (first-zero (editRefusals s array last from to b) later e)) refl in
       let t : take (length (longestStarts (edited s from to b))) starts ≡ longestStarts (edited s from to b) =
       rw w (take-append-seam (longestStarts (edited s from to b)) rest) in
       rw (g, t) (demand-three s from to b (shape .start) (shape .stretch))
 
-  -- room for groups, three numbers each
-  room-same : (room : ℕ) → tooShort (length (middleGroups s from to b)) (room / 3) ≡ tooShort (length (groupNumbers (middleGroups s from to b))) room
-  room-same room = ap (λ h. record { number = 8; holds = h }) (go (le-or-lt (length gs) (room / 3)))
-    where
-      gs : List Group
-      gs = middleGroups s from to b
+-- the records read off the numbers, and the groups read off the records
+records-of : (gs : List factors.Group) (rest : List ℕ) → groupsOf (length gs) (factors.groupNumbers gs ++ rest) ≡ map recordOf gs
+records-of [] rest = refl
+records-of (g ∷ gs) rest = ap {B = List Group} (λ t. recordOf g ∷ t) (records-of gs rest)
 
-      go : (length gs ≤ room / 3) ⊎ (room / 3 < length gs) → ltb (room / 3) (length gs) ≡ ltb room (length (groupNumbers gs))
-      go (inl h) = le-ltb (room / 3) (length gs) h ∙ sym (le-ltb room (length (groupNumbers gs)) (omega (arith, length-numbers gs)))
-      go (inr h) = lt-ltb (room / 3) (length gs) h ∙ sym (lt-ltb room (length (groupNumbers gs)) (omega (arith, length-numbers gs)))
+groups-of : (gs : List factors.Group) → map groupOf (map recordOf gs) ≡ gs
+groups-of [] = refl
+groups-of (g ∷ gs) = ap {B = List factors.Group} (λ t. g ∷ t) (groups-of gs)
 
-  pub numbers-answered : (row row′ starts starts′ : List ℕ) (r : Answer)
-      → FillsNumbers (editRefusals s array last from to b ++ roomRefusals s from to b (length row / 3) (length starts)) s from to b row row′ starts starts′ r
-      → EditsNumbers s array last from to b row row′ starts starts′ r
+-- a row that is not too short
+room-passed : (needs room : ℕ) (rs : List Refusal) → firstOf (tooShort needs room ∷ rs) ≡ 0 → needs ≤ room
+room-passed needs room rs e = go (le-or-lt needs room)
+  where
+    go : (needs ≤ room) ⊎ (room < needs) → needs ≤ room
+    go (inl h) = h
+    go (inr h) = absurd (omega (arith, first-holds (tooShort needs room) rs (lt-ltb room needs h)))
+
+module _ (s array last : List ℕ) (from to : ℕ) (b : List ℕ) (row : List Group) (ns ns′ starts starts′ : List ℕ) (r : Answer)
+    (f : FillsNumbers (allRefusals s array last from to b (length row) (length starts)) s from to b ns ns′ starts starts′ r) (n : ℕ) (count : n ≡ countOf r) where
+  abbrev rs : List Refusal
+  rs = allRefusals s array last from to b (length row) (length starts)
+
+  abbrev gs : List factors.Group
+  gs = middleGroups s from to b
+
+  -- no group where the edit is refused, all of them where it is not
+  counted : {k : ℕ} → firstOf rs ≡ k → n ≡ countOf (answerOf k (countsOf s from to b))
+  counted e = count ∙ ap countOf (f .answers) ∙ ap (λ x. countOf (answerOf x (countsOf s from to b))) e
+
+  all-counted : firstOf rs ≡ 0 → n ≡ length gs
   unfolding countsOf
-  numbers-answered row row′ starts starts′ r f =
-      record { fills = fills; demandThree = demand }
+  all-counted e = counted e
+
+  written-numbers : firstOf rs ≡ 0 → ns′ ≡ written (factors.groupNumbers gs) ns
+  written-numbers e = f .middle ∙ ap (λ k. rowAfter k (factors.groupNumbers gs) ns) e
+
+  pub row-fits : n ≤ length row
+  row-fits = go (firstOf rs) refl
     where
-      rs : List Refusal
-      rs = allRefusals s array last from to b (length (groupNumbers (middleGroups s from to b))) (length row) (length starts)
+      go : (k : ℕ) → firstOf rs ≡ k → n ≤ length row
+      go zero e =
+          let later = later-passed s array last from to b (roomRefusals s from to b (length row) (length starts)) e in
+          omega (arith, all-counted e, room-passed (length gs) (length row) (tooShort (length (longestStarts (edited s from to b))) (length starts) ∷ []) later)
+      go (suc k) e = omega (arith, counted e)
 
-      same : editRefusals s array last from to b ++ roomRefusals s from to b (length row / 3) (length starts) ≡ rs
-      same =
-          ap (λ x. editRefusals s array last from to b ++ (x ∷ tooShort (length (longestStarts (edited s from to b))) (length starts) ∷ []))
-          (room-same (length row))
+  pub numbers-fit : 3 * n ≤ length ns′
+  numbers-fit = go (firstOf rs) refl
+    where
+      go : (k : ℕ) → firstOf rs ≡ k → 3 * n ≤ length ns′
+      go zero e =
+          omega (
+            arith,
+            all-counted e,
+            ap length (written-numbers e),
+            length-append (factors.groupNumbers gs) (drop (length (factors.groupNumbers gs)) ns),
+            length-numbers gs,
+          )
+      go (suc k) e = omega (arith, counted e)
 
-      fills : FillsNumbers rs s from to b row row′ starts starts′ r
-      fills = rw same at f
+  module _ (row′ : List Group) (stored : row′ ≡ filled n ns′ row) where
+    -- the row that is left
+    stored-after : {k : ℕ} → firstOf rs ≡ k → row′ ≡ rowAfter k (map recordOf gs) row
+    unfolding filled
+    stored-after {k} e = go k e
+      where
+        go : (k : ℕ) → firstOf rs ≡ k → row′ ≡ rowAfter k (map recordOf gs) row
+        go zero q =
+            let a : groupsOf n ns′ ≡ map recordOf gs =
+            ap (λ m. groupsOf m ns′) (all-counted q) ∙ ap (groupsOf (length gs)) (written-numbers q) ∙ records-of gs (drop (length (factors.groupNumbers gs)) ns) in
+            stored ∙ ap (λ t. t ++ drop n row) a ∙ ap (λ m. map recordOf gs ++ drop m row) (all-counted q ∙ sym (length-map gs recordOf))
+        go (suc k) q = stored ∙ ap (λ m. groupsOf m ns′ ++ drop m row) (counted q)
 
-      demand : (c : Counts) → r ≡ Done c → DemandThree s from to b (answerIn c (numberGroups (c .groups) row′) starts′)
-      demand c e =
-          let d = done-accepted (firstOf rs) (countsOf s from to b) c (sym (fills .answers) ∙ e) in
-          let gs = middleGroups s from to b in
-          let out = longestStarts (edited s from to b) in
-          let w : row′ ≡ written (groupNumbers gs) row = fills .middle ∙ ap (λ k. rowAfter k (groupNumbers gs) row) (d .0) in
-          let p : starts′ ≡ written out starts = fills .places ∙ ap (λ k. rowAfter k out starts) (d .0) in
-          let g : numberGroups (length gs) row′ ≡ gs = ap (numberGroups (length gs)) w ∙ number-groups gs (drop (length (groupNumbers gs)) row) in
-          subst (λ x. DemandThree s from to b (answerIn x (numberGroups (x .groups) row′) starts′)) (d .1)
-          (demand-answered
-          (tooShort (length (groupNumbers gs)) (length row) ∷ tooShort (length out) (length starts) ∷ [])
-          (d .0) (numberGroups (length gs) row′) starts′ g (drop (length out) starts) p)
+    pub edit-answered : EditAnswered s array last from to b row row′ starts starts′ r
+    unfolding countsOf
+    edit-answered = record { fills = record { answers = f .answers; middle = stored-after refl; places = f .places }; demandThree = demand }
+      where
+        demand : (c : Counts) → r ≡ Done c → DemandThree s from to b (c .kept) (c .resume) (c .groups) (c .length) (c .starts) (map groupOf (take (c .groups) row′)) (take (c .starts) starts′)
+        demand c e =
+            let d = done-accepted (firstOf rs) (countsOf s from to b) c (sym (f .answers) ∙ e) in
+            let out = longestStarts (edited s from to b) in
+            let w : row′ ≡ map recordOf gs ++ drop (length (map recordOf gs)) row = stored-after (d .0) in
+            let p : starts′ ≡ written out starts = f .places ∙ ap (λ k. rowAfter k out starts) (d .0) in
+            let t : take (length gs) row′ ≡ map recordOf gs =
+            ap (take (length gs)) w ∙ take-at (map recordOf gs) (drop (length (map recordOf gs)) row) (length gs) (length-map gs recordOf) in
+            let g : map groupOf (take (length gs) row′) ≡ gs = ap (map groupOf) t ∙ groups-of gs in
+            subst (λ x. DemandThree s from to b (x .kept) (x .resume) (x .groups) (x .length) (x .starts) (map groupOf (take (x .groups) row′)) (take (x .starts) starts′)) (d .1)
+            (demand-answered s array last from to b (roomRefusals s from to b (length row) (length starts)) (d .0)
+            (map groupOf (take (length gs) row′)) starts′ g (drop (length out) starts) p)

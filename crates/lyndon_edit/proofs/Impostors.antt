@@ -1,19 +1,26 @@
--- Seven impostors, each with its answer to one case of the trainer's sheet: none of them meets the contract of either call that answers
--- an edit. Their names say what they do. The stored pattern is acbabcabcabac, and a letter stands for its ASCII code; rows have just the room that the result needs.
-use mathlib.Core.List.{List, [], _∷_}
-use mathlib.Core.Logic.{_⊎_, inl, inr}
-use mathlib.Core.Path.{_≡_, refl, ap}
-use Prim.Native.Nat.{ℕ}
-use lib.ListN.{getD}
-use borrow.Author.Tests.{eqb-false}
-use Rattle.edit.specs.Core.{countsOf}
-use Rattle.edit.specs.declared.Answer.{Answer}
+-- Impostors of the call that answers an edit, each by the demand that excludes it; their names say what they do. Those of demand 3 contradict
+-- `DemandThree` by itself, those of demand 2 `DemandTwo`, and those of demand 1 what the contract says of the first refusal, with any numbers;
+-- `contract-three`, `contract-two` and `contract-one` take all of these off the contract. The case is P5 of the trainer's sheet: of acbabcabcabac
+-- the stretch from 5 to 6 goes and b comes in. A letter stands for its ASCII code.
+use mathlib.Core.List.{List, [], _∷_, _++_, map}
+use mathlib.Core.Path.{_≡_, refl, sym, ap, _∙_}
+use Prim.Native.Nat.{ℕ, _<_}
+use native.Mathlib.Omega.{arith}
+use lib.ListN.{length, take, drop, getD}
+use Rattle.edit.specs.Core.{countsOf, answerOf, allRefusals}
+use Rattle.edit.specs.declared.Answer as call
 use Rattle.edit.specs.declared.Answer.the-variants.{Done, Refused}
+use Rattle.edit.specs.declared.Counts.{Counts}
 use Rattle.records.specs.declared.Group.{Group}
-use Rattle.words.specs.Edit.{edited, kept, keptOf, resume, middle, middleOf, middleGroups}
-use Rattle.words.specs.Factors.{factors}
-use Rattle.words.specs.Tables.{longestAt, lyndonArray, lastFactor, lastFactors, lyndonStarts, longest, longestStarts}
-use Rattle.lyndon_edit.specs.Calls.{EditsNumbers, EditsRecords}
+use Rattle.refusals.specs.Refusals.{firstOf}
+use Rattle.words.proofs.Answer.{Answer, answer, MeetsThree}
+use Rattle.words.proofs.Theorems.{demand-two, demand-three-only}
+use Rattle.words.specs.Demand.{DemandTwo}
+use Rattle.words.specs.Edit.{edited, kept, keptOf, resume, middle, middleOf, middleGroups, bits}
+use Rattle.words.specs.Factors as factors
+use Rattle.words.specs.Factors.{join, factors, spelled}
+use Rattle.words.specs.Tables.{longestAt, lyndonArray, lastFactor, lastFactors, lyndonStarts, longest, longestStarts, groups}
+use Rattle.lyndon_edit.specs.Calls.{groupOf, EditAnswered}
 
 abbrev a : ℕ
 a = 97
@@ -27,75 +34,114 @@ c = 99
 abbrev stored : List ℕ
 stored = a ∷ c ∷ b ∷ a ∷ b ∷ c ∷ a ∷ b ∷ c ∷ a ∷ b ∷ a ∷ c ∷ []
 
--- numbers of an answer, in the paper's order
-abbrev done : ℕ → ℕ → ℕ → ℕ → ℕ → Answer
-done k r g l n = Done (record { kept = k; resume = r; groups = g; length = l; starts = n })
+-- demand 3 of an answer to the case
+abbrev P5 : Answer → Type 0
+P5 x = MeetsThree stored 5 6 (b ∷ []) x
 
--- a number of an answer; a refused one has none
-abbrev keptIn : Answer → ℕ
-keptIn (Done n) = n .kept
-keptIn (Refused k) = 10000
+-- the answer that numbers and rows are
+abbrev answered : Counts → List Group → List ℕ → Answer
+answered n row starts =
+    record {
+      kept = n .kept;
+      resume = n .resume;
+      groups = map groupOf (take (n .groups) row);
+      groupCount = n .groups;
+      longest = n .length;
+      starts = take (n .starts) starts;
+      startCount = n .starts;
+    }
 
-abbrev groupsIn : Answer → ℕ
-groupsIn (Done n) = n .groups
-groupsIn (Refused k) = 10000
+-- the numbers of the right answer, with these groups and starts: kept 1, resume 9, one group, length 6 at one place
+abbrev right : List factors.Group → List ℕ → Answer
+right groups starts = record { kept = 1; resume = 9; groups = groups; groupCount = 1; longest = 6; starts = starts; startCount = 1 }
 
-abbrev lengthIn : Answer → ℕ
-lengthIn (Done n) = n .length
-lengthIn (Refused k) = 10000
+only-right : (x : Answer) → P5 x → x ≡ right (record { start = 3; size = 6; power = 1 } ∷ []) (3 ∷ [])
+unfolding answer factors longestAt lyndonArray lastFactor lastFactors lyndonStarts longest longestStarts edited kept keptOf resume middle middleOf middleGroups
+only-right x d = demand-three-only stored 5 6 (b ∷ []) (omega arith) (omega arith) x d
 
-abbrev startsIn : Answer → ℕ
-startsIn (Done n) = n .starts
-startsIn (Refused k) = 10000
+-- what the contract says of an answer that is no refusal: demand 3 of its numbers and of the rows as they are left
+pub contract-three : {array last : List ℕ} {row row′ : List Group} {starts starts′ : List ℕ} (n : Counts)
+    → EditAnswered stored array last 5 6 (b ∷ []) row row′ starts starts′ (Done n) → P5 (answered n row′ starts′)
+contract-three n h = h .demandThree n refl
 
--- a record of zeros, as the lent row holds it before the call
-abbrev zeros : Group
-zeros = record { start = 0; length = 0; power = 0 }
+-- the factors that an answer reports: the kept ones, the groups spelled out, and those of the stored ending
+abbrev reported : Answer → List (List ℕ)
+reported x = take (x .kept) (factors stored) ++ (spelled (edited stored 5 6 (b ∷ [])) (x .groups) ++ factors (drop (x .resume) stored))
 
--- case P5: from 5 to 6 goes, b comes in; kept 1, one group, resume 9, length 6 at one place
-abbrev Numbers : List ℕ → List ℕ → Answer → Type 0
-Numbers row′ starts′ r = EditsNumbers stored (lyndonArray stored) (lastFactors stored) 5 6 (b ∷ []) (0 ∷ 0 ∷ 0 ∷ []) row′ (0 ∷ []) starts′ r
+-- and so, by `exactly`, demand 2 of the factors reported
+pub contract-two : {array last : List ℕ} {row row′ : List Group} {starts starts′ : List ℕ} (n : Counts)
+    → EditAnswered stored array last 5 6 (b ∷ []) row row′ starts starts′ (Done n)
+    → DemandTwo (edited stored 5 6 (b ∷ [])) (reported (answered n row′ starts′))
+contract-two n h = rw (h .demandThree n refl .exactly) (demand-two (edited stored 5 6 (b ∷ [])))
 
-abbrev Records : List Group → List ℕ → Answer → Type 0
-Records row′ starts′ r = EditsRecords stored (lyndonArray stored) (lastFactors stored) 5 6 (b ∷ []) (zeros ∷ []) row′ (0 ∷ []) starts′ r
+-- the stored factors are reported: four, where the edited pattern has three (demand 3), and joined they are the stored pattern (demand 2)
+pub repeats-the-stored-factors : (x : Answer) → reported x ≡ factors stored → P5 x → ⊥
+unfolding edited factors
+repeats-the-stored-factors x e d = omega (arith, ap length (sym e ∙ d .exactly))
 
-module _ (numbers′ : List ℕ) (records′ : List Group) (starts′ : List ℕ) where
-  -- the answer meets the contract of one of the two calls
-  abbrev P5 : Answer → Type 0
-  P5 r = Numbers numbers′ starts′ r ⊎ Records records′ starts′ r
+pub stored-factors-repeated : (x : Answer) → reported x ≡ factors stored → DemandTwo (edited stored 5 6 (b ∷ [])) (reported x) → ⊥
+unfolding edited factors
+stored-factors-repeated x e d = omega (arith, ap (λ s. getD s 5 0) (sym (ap join e) ∙ d .qualities .joined))
 
-  answered : (r : Answer) → P5 r → r ≡ done 1 9 1 6 1
-  unfolding factors longestAt lyndonArray lastFactor lastFactors lyndonStarts longest longestStarts edited kept keptOf resume middle middleOf middleGroups countsOf
-  answered r (inl e) = e .fills .answers
-  answered r (inr e) = e .fills .answers
+-- demand 3: none is kept; nothing is resumed; and by its bound on the groups, rightly counted, all groups of the edited pattern are spelled out,
+-- where an edit of cba at 1 that changes nothing may spell out two
+pub keeps-none : (x : Answer) → x .kept ≡ 0 → P5 x → ⊥
+keeps-none x e d = omega (arith, ap (λ y. y .kept) (only-right x d), e)
 
-  pub repeats-the-stored-factors : P5 (done 4 13 0 4 1) → ⊥
-  repeats-the-stored-factors e = eqb-false 4 1 refl (ap keptIn (answered (done 4 13 0 4 1) e))
+pub resumes-nothing : (x : Answer) → x .resume ≡ length stored → P5 x → ⊥
+resumes-nothing x e d = omega (arith, ap (λ y. y .resume) (only-right x d), e)
 
-  pub keeps-none : P5 (done 0 13 3 6 1) → ⊥
-  keeps-none e = eqb-false 0 1 refl (ap keptIn (answered (done 0 13 3 6 1) e))
+pub spells-out-everything : (x : Answer) → x .groups ≡ groups (edited (c ∷ b ∷ a ∷ []) 1 1 []) → MeetsThree (c ∷ b ∷ a ∷ []) 1 1 [] x → ⊥
+unfolding bits edited factors groups
+spells-out-everything x e d = omega (arith, d .bound, d .countsGroups, ap length e)
 
-  pub invents-groups : P5 (done 1 9 7 6 1) → ⊥
-  invents-groups e = eqb-false 7 1 refl (ap groupsIn (answered (done 1 9 7 6 1) e))
+-- demand 3: any other number of groups, or of starts
+pub invents-groups : (x : Answer) → (x .groupCount ≡ 1 → ⊥) → P5 x → ⊥
+invents-groups x h d = h (ap (λ y. y .groupCount) (only-right x d))
 
-  pub invents-starts : P5 (done 1 9 1 6 7) → ⊥
-  invents-starts e = eqb-false 7 1 refl (ap startsIn (answered (done 1 9 1 6 7) e))
+pub invents-starts : (x : Answer) → (x .startCount ≡ 1 → ⊥) → P5 x → ⊥
+invents-starts x h d = h (ap (λ y. y .startCount) (only-right x d))
 
-  pub enormous-length : P5 (done 1 9 1 4096 0) → ⊥
-  enormous-length e = eqb-false 4096 6 refl (ap lengthIn (answered (done 1 9 1 4096 0) e))
+-- demand 3: a longer length than the longest; and no starts, whatever the length
+pub enormous-length : (x : Answer) → 6 < x .longest → P5 x → ⊥
+enormous-length x l d = omega (arith, ap (λ y. y .longest) (only-right x d))
 
-  pub refuses-every-edit : (number : ℕ) → P5 (Refused number) → ⊥
-  refuses-every-edit number e = eqb-false 10000 1 refl (ap keptIn (answered (Refused number) e))
+pub no-starts : (x : Answer) → x .starts ≡ [] → P5 x → ⊥
+no-starts x e d = omega (arith, ap (λ y. length (y .starts)) (only-right x d), ap length e)
 
-  pub eight-before-measuring : P5 (Refused 8) → ⊥
-  eight-before-measuring = refuses-every-edit 8
+-- demand 3: the numbers are right, and the row of records, or that of starts, holds the zeros that it held before
+pub leaves-the-records : (starts′ : List ℕ) → P5 (right (map groupOf (record { start = 0; length = 0; power = 0 } ∷ [])) starts′) → ⊥
+leaves-the-records starts′ d = omega (arith, ap (λ y. getD (y .groups) 0 zeros .size) (only-right (right (zeros ∷ []) starts′) d))
+  where
+    zeros : factors.Group
+    zeros = record { start = 0; size = 0; power = 0 }
 
--- the rows are as they were, though the numbers are right
-pub leaves-the-rows : P5 (0 ∷ 0 ∷ 0 ∷ []) (zeros ∷ []) (0 ∷ []) (done 1 9 1 6 1) → ⊥
+pub leaves-the-starts : (row′ : List Group) → P5 (right (map groupOf (take 1 row′)) (0 ∷ [])) → ⊥
+leaves-the-starts row′ d = omega (arith, ap (λ y. getD (y .starts) 0 0) (only-right (right (map groupOf (take 1 row′)) (0 ∷ [])) d))
+
+-- demand 1: what the contract answers with rows of so many records and starts, for the numbers n
+abbrev Answers : ℕ → ℕ → Counts → call.Answer → Type 0
+Answers room starts n r = r ≡ answerOf (firstOf (allRefusals stored (lyndonArray stored) (lastFactors stored) 5 6 (b ∷ []) room starts)) n
+
+pub contract-one : (room starts : ℕ) {row row′ : List Group} {places places′ : List ℕ} {r : call.Answer} → length row ≡ room → length places ≡ starts
+    → EditAnswered stored (lyndonArray stored) (lastFactors stored) 5 6 (b ∷ []) row row′ places places′ r
+    → Answers room starts (countsOf stored 5 6 (b ∷ [])) r
+contract-one room starts p q h = rw (p, q) at (h .fills .answers)
+
+abbrev accepted : call.Answer → ℕ
+accepted (Done n) = 1
+accepted (Refused k) = 0
+
+-- the rows are as long as an answer can need: the bound on groups, and a start for each of the thirteen places
+pub refuses-every-edit : (number : ℕ) (n : Counts) → Answers 5 13 n (Refused number) → ⊥
 unfolding factors longestAt lyndonArray lastFactor lastFactors lyndonStarts longest longestStarts edited kept keptOf resume middle middleOf middleGroups
-leaves-the-rows (inl e) =
-    let row : _≡_ {A = List ℕ} (0 ∷ 0 ∷ 0 ∷ []) (3 ∷ 6 ∷ 1 ∷ []) = e .fills .middle in
-    eqb-false 0 3 refl (ap (λ l. getD l 0 0) row)
-leaves-the-rows (inr e) =
-    let row : _≡_ {A = List Group} (zeros ∷ []) (record { start = 3; length = 6; power = 1 } ∷ []) = e .fills .middle in
-    eqb-false 0 3 refl (ap (λ l. getD l 0 zeros .start) row)
+refuses-every-edit number n e = omega (arith, ap accepted e)
+
+-- the rows have just the one record and the one start that the result needs; 8 is due where one of them is empty
+pub eight-before-measuring : (n : Counts) → Answers 1 1 n (Refused 8) → ⊥
+unfolding factors longestAt lyndonArray lastFactor lastFactors lyndonStarts longest longestStarts edited kept keptOf resume middle middleOf middleGroups
+eight-before-measuring n e = omega (arith, ap accepted e)
+
+pub eight-due : (n : Counts) → Answers 0 1 n (Refused 8) × Answers 1 0 n (Refused 8)
+unfolding factors longestAt lyndonArray lastFactor lastFactors lyndonStarts longest longestStarts edited kept keptOf resume middle middleOf middleGroups
+eight-due n = (refl, refl)

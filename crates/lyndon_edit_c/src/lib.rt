@@ -1,9 +1,9 @@
-// The two calls that answer an edit, for Rust and C: the rows go through as they lie, and the answer comes as one flat struct.
+// The call that answers an edit, for Rust and C: the rows go through as they lie, and the answer comes as one flat struct.
 // A slice is two parameters for the caller, its pointer and its length; a Rust caller declares them so, and not as `&[u8]`.
 use edit::Answer;
 use records::Group;
 ghost use mathlib.Core.Path.{_≡_};
-ghost use Rattle.lyndon_edit.specs.Calls.{EditsNumbers, EditsRecords};
+ghost use Rattle.lyndon_edit.specs.Calls.{EditAnswered};
 ghost use Rattle.lyndon_edit_c.specs.Flat.{flatOf, Exports};
 
 // An answer as C takes it: the refusal's number, 0 where there is none, and the five numbers of an accepted edit, all 0 beside a refusal.
@@ -52,26 +52,8 @@ pub extern "C" fn lyndon_edit(
     middle: &mut [Group],
     starts: &mut [u16],
 ) -> EditAnswer
-    ensures { λ r. ⌜ Exports (EditsRecords (now (pattern .entry)) (now (array .entry)) (now (last .entry)) from to (now (block .entry)) (now (middle .entry)) (now (middle .exit)) (now (starts .entry)) (now (starts .exit))) r ⌝ }
+    ensures { λ r. ⌜ Exports (EditAnswered (now (pattern .entry)) (now (array .entry)) (now (last .entry)) from to (now (block .entry)) (now (middle .entry)) (now (middle .exit)) (now (starts .entry)) (now (starts .exit))) r ⌝ }
 {
     let answer = lyndon_edit::edit(pattern, array, last, from, to, block, middle, starts);
-    flatten(answer)
-}
-
-// The middle groups go to a lent row of numbers, three each: start, factor length, power.
-#[no_mangle]
-pub extern "C" fn lyndon_edit_numbers(
-    pattern: &[u8],
-    array: &[u16],
-    last: &[u16],
-    from: usize,
-    to: usize,
-    block: &[u8],
-    middle: &mut [u16],
-    starts: &mut [u16],
-) -> EditAnswer
-    ensures { λ r. ⌜ Exports (EditsNumbers (now (pattern .entry)) (now (array .entry)) (now (last .entry)) from to (now (block .entry)) (now (middle .entry)) (now (middle .exit)) (now (starts .entry)) (now (starts .exit))) r ⌝ }
-{
-    let answer = lyndon_edit::edit_numbers(pattern, array, last, from, to, block, middle, starts);
     flatten(answer)
 }

@@ -18,7 +18,7 @@ use Rattle.rows.specs.Row.{written, writtenAt}
 use Rattle.scan.proofs.Next.{next-words}
 use Rattle.scan.proofs.Pass.{length-fits}
 use Rattle.scan.specs.Group.{NextGroup}
-use Rattle.words.proofs.Bounded.{le-cases}
+use Rattle.words.proofs.Bounded.{le-cases, le-or-lt}
 use Rattle.words.proofs.Factors.{longest-prefix-le, longest-prefix-max, longest-prefix-lyndon}
 use Rattle.words.proofs.Longest.{longest-word}
 use Rattle.words.proofs.Lyndon.{lyndon-true, true-lyndon, false-lyndon, length-some}
@@ -30,7 +30,7 @@ use Rattle.words.specs.Order.{Lyndon, lyndon}
 use Rattle.words.specs.Rotation.{leastRotation, repeated}
 use Rattle.words.specs.Tables.{LyndonAt, lyndonStarts, longest, longestStarts, longestWord}
 use Rattle.words.specs.Tree.{treeNodes, nodeNumbers}
-use Rattle.lyndon_words.specs.Calls.{StartsListed, wordPart, LyndonTold, rotationRefusals, RotationFound, TreeListed}
+use Rattle.lyndon_words.specs.Calls.{StartsListed, wordPlace, WordCut, LyndonTold, rotationRefusals, RotationFound, TreeListed}
 use Rattle.lyndon_words.specs.declared.Verdict.{Verdict}
 
 -- longest_words
@@ -40,7 +40,7 @@ module _ (s row : List ℕ) where
       let e = sym (first-is (too-long s {rs = tooShort (length (longestStarts s)) (length row) ∷ []} h)) in
       record {
         refusal = e;
-        length = ap (λ n. unlessRefused n (longest s) 0) e;
+        size = ap (λ n. unlessRefused n (longest s) 0) e;
         count = ap (λ n. unlessRefused n (length (longestStarts s)) 0) e;
         leaves = ap (λ n. rowAfter n (longestStarts s) row) e;
       }
@@ -52,7 +52,7 @@ module _ (s row : List ℕ) where
       let e = sym (first-is f) in
       record {
         refusal = e;
-        length = ap (λ n. unlessRefused n (longest s) 0) e;
+        size = ap (λ n. unlessRefused n (longest s) 0) e;
         count = ap (λ n. unlessRefused n (length (longestStarts s)) 0) e;
         leaves = ap (λ n. rowAfter n (longestStarts s) row) e;
       }
@@ -65,26 +65,48 @@ module _ (s row : List ℕ) where
       let e = sym (first-is f) in
       record {
         refusal = e;
-        length = p ∙ ap (λ n. unlessRefused n (longest s) 0) e;
+        size = p ∙ ap (λ n. unlessRefused n (longest s) 0) e;
         count = q ∙ ap (λ n. unlessRefused n (length (longestStarts s)) 0) e;
         leaves = w ∙ ap (λ n. rowAfter n (longestStarts s) row) e;
       }
 
 -- longest_word
 module _ (s : List ℕ) where
-  pub word-long : maxPattern < length s → [] ≡ wordPart s
-  word-long h = ap (λ n. unlessRefused n (take (longestWord s .1) (drop (longestWord s .0) s)) []) (sym (first-is (too-long s {rs = []} h)))
+  pub place-long : maxPattern < length s → (0, 0) ≡ wordPlace s
+  place-long h = ap (λ n. unlessRefused n (longestWord s) (0, 0)) (sym (first-is (too-long s {rs = []} h)))
 
-  pub word-part : length s ≤ maxPattern → (a l : ℕ) → a ≡ longestWord s .0 → l ≡ longest s → take l (drop a s) ≡ wordPart s
+  place-short : length s ≤ maxPattern → longestWord s ≡ wordPlace s
+  place-short h = ap (λ n. unlessRefused n (longestWord s) (0, 0)) (sym (first-is (not-long s {rs = []} h none)))
+
+  pub place-found : length s ≤ maxPattern → (a l : ℕ) → a ≡ longestWord s .0 → l ≡ longest s → (a, l) ≡ wordPlace s
   unfolding longestWord
-  word-part h a l p q =
-      rw (p, q) (ap (λ n. unlessRefused n (take (longestWord s .1) (drop (longestWord s .0) s)) []) (sym (first-is (not-long s {rs = []} h none))))
+  place-found h a l p q = rw (p, q) (place-short h)
 
 -- the word lies within the pattern
-pub word-within : (s : List ℕ) → longestWord s .0 + longest s ≤ length s
+word-within : (s : List ℕ) → longestWord s .0 + longestWord s .1 ≤ length s
 unfolding longestWord longestStarts lyndonStarts longest
 word-within [] = omega arith
 word-within (x ∷ xs) = longest-listed (x ∷ xs) (longestWord (x ∷ xs) .0) .0 (longest-word (x ∷ xs) (omega arith) .0) .fits
+
+module _ (s : List ℕ) (start size : ℕ) (is : (start, size) ≡ wordPlace s) where
+  pub place-within : start + size ≤ length s
+  place-within = go (le-or-lt (length s) maxPattern)
+    where
+      go : (length s ≤ maxPattern) ⊎ (maxPattern < length s) → start + size ≤ length s
+      go (inl h) =
+          let e = is ∙ sym (place-short s h) in
+          omega (arith, word-within s, ap (λ p. p .0) e, ap (λ p. p .1) e)
+      go (inr h) =
+          let e = is ∙ sym (place-long s h) in
+          omega (arith, ap (λ p. p .0) e, ap (λ p. p .1) e)
+
+  pub word-cut : (at : ℕ × ℕ) → WordCut s at (take (start + size - start) (drop start s)) (at .0, start + at .1)
+  word-cut at =
+      let n : start + size - start ≡ size = omega arith in
+      record {
+        symbols = ap (λ k. take k (drop start s)) n ∙ ap (λ p. take (p .1) (drop (p .0) s)) is;
+        place = ap (λ p. (at .0, p .0 + at .1)) is;
+      }
 
 -- is_lyndon
 module _ (w : List ℕ) where

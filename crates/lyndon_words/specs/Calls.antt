@@ -2,7 +2,7 @@
 use mathlib.Core.Bool.{false}
 use mathlib.Core.List.{List, [], _∷_}
 use mathlib.Core.Path.{_≡_}
-use Prim.Native.Nat.{ℕ, _<_}
+use Prim.Native.Nat.{ℕ, _+_, _<_}
 use lib.ListN.{length, take, drop}
 use Rattle.words.specs.Order.{lyndon}
 use Rattle.words.specs.Tables.{longest, longestStarts, longestWord}
@@ -21,13 +21,18 @@ startsRefusals s row = patternTooLong s ∷ tooShort (length (longestStarts s)) 
 
 pub record StartsListed (s row row′ : List ℕ) (r : Starts) : Type 0 where
   pub refusal : r .refusal ≡ firstOf (startsRefusals s row)
-  pub length : r .length ≡ unlessRefused (firstOf (startsRefusals s row)) (longest s) 0
-  pub count : r .count ≡ unlessRefused (firstOf (startsRefusals s row)) (lib.ListN.length (longestStarts s)) 0
+  pub size : r .length ≡ unlessRefused (firstOf (startsRefusals s row)) (longest s) 0
+  pub count : r .count ≡ unlessRefused (firstOf (startsRefusals s row)) (length (longestStarts s)) 0
   pub leaves : row′ ≡ rowAfter (firstOf (startsRefusals s row)) (longestStarts s) row
 
--- longest_word: the part of the pattern, the empty one where it is refused
-abbrev pub wordPart : List ℕ → List ℕ
-wordPart s = unlessRefused (firstOf (patternTooLong s ∷ [])) (take (longestWord s .1) (drop (longestWord s .0) s)) []
+-- longest_word: where the trigger word starts, and its length; the empty part at the front where the pattern is refused
+abbrev pub wordPlace : List ℕ → ℕ × ℕ
+wordPlace s = unlessRefused (firstOf (patternTooLong s ∷ [])) (longestWord s) (0, 0)
+
+-- its symbols, and its place: the pattern lies at `at`, an allocation and an offset in it, and the word in the same allocation, as far on as it starts
+pub record WordCut (s : List ℕ) (at : ℕ × ℕ) (word : List ℕ) (at′ : ℕ × ℕ) : Type 0 where
+  pub symbols : word ≡ take (wordPlace s .1) (drop (wordPlace s .0) s)
+  pub place : at′ ≡ (at .0, wordPlace s .0 + at .1)
 
 -- is_lyndon
 pub record LyndonTold (w : List ℕ) (r : Verdict) : Type 0 where

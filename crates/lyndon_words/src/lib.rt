@@ -11,13 +11,18 @@ use rotation::least_start;
 use scan::next_group;
 use tree::write_nodes;
 ghost use mathlib.Core.Path.{_≡_};
-ghost use Rattle.lyndon_words.specs.Calls.{StartsListed, wordPart, LyndonTold, RotationFound, TreeListed};
+ghost use Rattle.lyndon_words.specs.Calls.{StartsListed, wordPlace, WordCut, LyndonTold, RotationFound, TreeListed};
 
 // The answer about the longest words: their length, and how many starts were written.
 pub struct Starts {
     pub refusal: u8,
     pub length: usize,
     pub count: usize,
+}
+
+pub struct WordPlace {
+    pub start: usize,
+    pub length: usize,
 }
 
 pub struct Verdict {
@@ -59,16 +64,29 @@ pub fn longest_words(pattern: &[u8], starts: &mut [u16]) -> Starts
     }
 }
 
-// The first of the longest Lyndon substrings, as a part of the pattern; the empty part where the pattern is too long.
-pub fn longest_word(pattern: &[u8]) -> &[u8]
-    ensures { λ r. ⌜ now r ≡ wordPart (now (pattern .entry)) ⌝ }
+// Where the first of the longest Lyndon substrings is; both numbers are 0 where the pattern is empty or too long. For C, which takes no part.
+pub fn longest_word_place(pattern: &[u8]) -> WordPlace
+    ensures { λ r. ⌜ (r .start, r .length) ≡ wordPlace (now (pattern .entry)) ⌝ }
 {
     if MAX_PATTERN < pattern.len() {
-        return &pattern[..0];
+        return WordPlace {
+            start: 0,
+            length: 0,
+        };
     }
     let found = measure(pattern);
     let start = found.start;
-    let end = start + found.length;
+    let length = found.length;
+    WordPlace { start, length }
+}
+
+// The first of the longest Lyndon substrings, as a part of the pattern; the empty part where the pattern is too long.
+pub fn longest_word(pattern: &[u8]) -> &[u8]
+    ensures { λ r. ⌜ WordCut (now (pattern .entry)) (pattern .entry .ptr) (now r) (r .ptr) ⌝ }
+{
+    let word = longest_word_place(pattern);
+    let start = word.start;
+    let end = start + word.length;
     &pattern[start..end]
 }
 

@@ -17,9 +17,7 @@ pub record Refusal : Type 0 where
 -- The number of the first refusal that holds, and 0 where none does.
 abbrev pub firstOf : List Refusal → ℕ
 firstOf [] = 0
-firstOf (r ∷ rs) =
-    let later = firstOf rs in
-    cond (r .holds) (r .number) later
+firstOf (r ∷ rs) = let later = firstOf rs in cond (r .holds) (r .number) later
 
 -- What a call gives where this number refuses it: 0 refuses nothing and leaves the value, any other gives what stands beside a refusal.
 abbrev pub unlessRefused : {A : Type 0} → ℕ → A → A → A

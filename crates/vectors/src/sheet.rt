@@ -1,5 +1,8 @@
-// What the papers say of short patterns: the mark, Lyndon words, the order of bytes, and those lines of the trainer's sheet that ask these calls.
+// What the papers say of short patterns: the mark, Lyndon words, the order of bytes, those lines of the trainer's sheet that ask these calls, and
+// the trigger words of all words of six letters.
 use show::calls;
+ghost use mathlib.Core.Path.{_≡_};
+ghost use lib.ListN.{length};
 
 // `baab` has mark 1; `abab` is refused, with mark 0, and is no Lyndon word.
 fn marks() {
@@ -43,9 +46,28 @@ fn sheet() {
     calls::lyndon_tree(b"a", 2);
 }
 
+// The trigger words of the windows of six letters.
+fn windows(letters: &[u8])
+    requires { ⌜ length (now letters) ≡ 69 ⌝ }
+{
+    let mut i = 0;
+    while i < 64 {
+        let end = i + 6;
+        calls::longest_word(&letters[i..end]);
+        i += 1;
+    }
+}
+
+// The windows of this word are all words of six letters a and b, each once.
+fn triggers() {
+    show::heading(b"trigger words of all words of six letters a and b");
+    windows(b"aaaaaabaaaabbaaababaaabbbaabaababbaabbabaabbbbabababbbabbabbbbbbaaaaa");
+}
+
 pub(crate) fn run() {
     marks();
     unsigned();
     short();
     sheet();
+    triggers();
 }

@@ -1,5 +1,5 @@
--- E1 to E4: the answer to an edit meets demand 3. `kept-least`, `resume-first` and `middle-is` say by numbers of factors what the
--- answer's parts are, for code that finds them another way; `middle-bound` is the bound on the groups by itself.
+-- E1 to E4, part by part: what is kept, where the stored ending resumes, the middle between and the bound on its groups. `kept-least`,
+-- `resume-first` and `middle-is` say by numbers of factors what these are, for code that finds them another way.
 use mathlib.Core.Bool.{Bool, true, false, _&&_}
 use mathlib.Core.List.{List, _++_, append-assoc}
 use mathlib.Core.Logic.{_⊎_, inl, inr}
@@ -12,12 +12,10 @@ use lib.Seq.{take-at, drop-append-seam, drop-append-add, drop-drop, length-take-
 use borrow.Author.Tests.{leb-true, le-leb}
 use Rattle.words.specs.Factors.{join, factors, startsFrom, groupsFrom, startAt}
 use Rattle.words.specs.Edit.{edited, place, sameAll, member, keptOf, kept, resume, middleOf, middle, middleGroups, bits}
-use Rattle.words.proofs.Answer.{answer}
-use Rattle.words.specs.Demand.{Kept, FactorStart, ResumePoint, DemandThree}
+use Rattle.words.specs.Demand.{Kept, FactorStart, ResumePoint}
 use Rattle.words.proofs.Bounded.{le-or-lt, le-cases, and-true, largest-is, smallest-is}
 use Rattle.words.proofs.Factors.{factors-falling, join-factors}
 use Rattle.words.proofs.Groups.{groups-append, groups-most, groups-left}
-use Rattle.words.proofs.Substrings.{longest-bound, longest-listed, longest-ascending, longest-some, longest-none}
 use Rattle.words.proofs.Fresh.{front-fresh}
 use Rattle.words.proofs.EditParts.{end-grows, end-le, end-all, factors-after, endingBy, ending-le, ending-before, ending-most}
 use Rattle.words.proofs.EditParts.{startingBy, starting-le, starting-before, starting-from}
@@ -108,10 +106,10 @@ module _ (s : List ℕ) (from to : ℕ) (b : List ℕ) (h : from ≤ to) (k : to
       c : ℕ
       c = kept s from to b
 
-  keeps : Kept s (edited s from to b) from (kept s from to b)
+  pub keeps : Kept s (edited s from to b) from (kept s from to b)
   keeps = record { count = omega (arith, kept-least, ending-le from (factors s)); before = kept-before; first = kept-same }
 
-  keeps-most : (c : ℕ) → Kept s (edited s from to b) from c → c ≤ kept s from to b
+  pub keeps-most : (c : ℕ) → Kept s (edited s from to b) from c → c ≤ kept s from to b
   keeps-most c n =
       let fs = factors s in
       let gs = factors (edited s from to b) in
@@ -176,7 +174,7 @@ module _ (s : List ℕ) (from to : ℕ) (b : List ℕ) (h : from ≤ to) (k : to
       ap factors (resume-rest ∙ ap (λ i. drop i (edited s from to b)) resume-first)
       ∙ factors-after (resumeFactor s from to b) (edited s from to b)
 
-  resumes : ResumePoint s from to b (resume s from to b)
+  pub resumes : ResumePoint s from to b (resume s from to b)
   resumes =
       record {
         after = omega (arith, resume-is);
@@ -190,7 +188,7 @@ module _ (s : List ℕ) (from to : ℕ) (b : List ℕ) (h : from ≤ to) (k : to
           inl (omega (arith, resume-is, ap (λ n. startAt (factors (edited s from to b)) n) e, end-all (edited s from to b), length-edited, k))
       go (inr l) = inr (record { index = resumeFactor s from to b; within = l; at = sym resume-first })
 
-  resumes-first : (p : ℕ) → ResumePoint s from to b p → resume s from to b ≤ p
+  pub resumes-first : (p : ℕ) → ResumePoint s from to b p → resume s from to b ≤ p
   resumes-first p n = go (n .start)
     where
       go : (p ≡ length s) ⊎ FactorStart (edited s from to b) (place from to b p) → resume s from to b ≤ p
@@ -272,24 +270,3 @@ module _ (s : List ℕ) (from to : ℕ) (b : List ℕ) (h : from ≤ to) (k : to
       let parts = ap (λ r. length (groupsFrom i r)) (middle-is ∙ take-split (d - c) (m - c) (drop c (factors t)) l) in
       let most = length-take (m - c - (d - c)) (drop (d - c) (drop c (factors t))) in
       omega (arith, parts, groups-append i i new later, fresh-part i, groups-most i later, most, few)
-
-pub demand-three : (s : List ℕ) (from to : ℕ) (b : List ℕ) → from ≤ to → to ≤ length s → DemandThree s from to b (answer s from to b)
-unfolding answer middleGroups
-demand-three s from to b h k =
-    record {
-      bound = middle-bound s from to b h k;
-      middle = middle s from to b;
-      grouped = refl;
-      exactly = middle-exact s from to b h k;
-      keeps = keeps s from to b h k;
-      most = keeps-most s from to b h k;
-      resumes = resumes s from to b h k;
-      earliest = resumes-first s from to b h k;
-      longest = longest-bound (edited s from to b);
-      listed = longest-listed (edited s from to b);
-      ascending = longest-ascending (edited s from to b);
-      countsGroups = refl;
-      countsStarts = refl;
-      some = longest-some (edited s from to b);
-      none = λ e. rw e longest-none;
-    }

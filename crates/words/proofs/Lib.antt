@@ -18,8 +18,10 @@ pub mod UniqueLeast
 pub mod Tree
 pub mod Answer
 pub mod EditParts
+pub mod Spelled
 pub mod Fresh
 pub mod Edit
+pub mod Demand
 pub mod Middle
 pub mod Joined
 pub mod Neighbours

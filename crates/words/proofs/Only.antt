@@ -7,12 +7,13 @@ use Prim.Native.Nat.{ℕ, suc, _≤_, _<_}
 use native.Mathlib.Omega.{arith}
 use lib.ListN.{length, take, drop, getD, length-append}
 use lib.Seq.{take-append-seam, take-at}
-use Rattle.words.specs.Factors.{factors, startAt, groupsFrom}
-use Rattle.words.specs.Edit.{edited, Answer}
-use Rattle.words.proofs.Answer.{answer}
-use Rattle.words.specs.Demand.{Member, DemandThree}
+use Rattle.words.specs.Factors.{factors, startAt, groupsFrom, spelled}
+use Rattle.words.specs.Edit.{edited}
+use Rattle.words.specs.Demand.{Member}
+use Rattle.words.proofs.Answer.{Answer, answer, MeetsThree}
 use Rattle.words.proofs.Places.{first-member}
-use Rattle.words.proofs.Edit.{append-cancel, demand-three}
+use Rattle.words.proofs.Demand.{demand-three}
+use Rattle.words.proofs.Edit.{append-cancel}
 
 -- what stands between equal lists is equal
 between-equal : (p x y q : List (List ℕ)) → p ++ (x ++ q) ≡ p ++ (y ++ q) → x ≡ y
@@ -74,12 +75,12 @@ same-answer a c k r g n l s m = whole
     whole = rw (k, r, g, n, l, s, m) refl
 
 module _ (s : List ℕ) (from to : ℕ) (b : List ℕ) where
-  longest-below : (a c : Answer) → DemandThree s from to b a → DemandThree s from to b c → 0 < length (edited s from to b) → a .longest ≤ c .longest
+  longest-below : (a c : Answer) → MeetsThree s from to b a → MeetsThree s from to b c → 0 < length (edited s from to b) → a .longest ≤ c .longest
   longest-below a c d e h =
       let i = getD (a .starts) 0 0 in
       e .longest (a .longest) i (d .listed i .0 (first-member (a .starts) (omega (arith, d .some h, d .countsStarts))))
 
-  longest-same : (a c : Answer) → DemandThree s from to b a → DemandThree s from to b c → a .longest ≡ c .longest
+  longest-same : (a c : Answer) → MeetsThree s from to b a → MeetsThree s from to b c → a .longest ≡ c .longest
   longest-same a c d e = go (edited s from to b) refl
     where
       go : (t : List ℕ) → edited s from to b ≡ t → a .longest ≡ c .longest
@@ -88,7 +89,7 @@ module _ (s : List ℕ) (from to : ℕ) (b : List ℕ) where
           let h : 0 < length (edited s from to b) = omega (arith, ap length q) in
           omega (arith, longest-below a c d e h, longest-below c a e d h)
 
-  pub demand-three-unique : (a c : Answer) → DemandThree s from to b a → DemandThree s from to b c → a ≡ c
+  pub demand-three-unique : (a c : Answer) → MeetsThree s from to b a → MeetsThree s from to b c → a ≡ c
   demand-three-unique a c d e = same-answer a c kept resume groups counts longest starts places
     where
       kept : a .kept ≡ c .kept
@@ -97,14 +98,14 @@ module _ (s : List ℕ) (from to : ℕ) (b : List ℕ) where
       resume : a .resume ≡ c .resume
       resume = omega (arith, e .earliest (a .resume) (d .resumes), d .earliest (c .resume) (e .resumes))
 
-      middle : d .middle ≡ e .middle
+      middle : spelled (edited s from to b) (a .groups) ≡ spelled (edited s from to b) (c .groups)
       middle =
-          between-equal (take (a .kept) (factors s)) (d .middle) (e .middle) (factors (drop (a .resume) s))
+          between-equal (take (a .kept) (factors s)) (spelled (edited s from to b) (a .groups)) (spelled (edited s from to b) (c .groups)) (factors (drop (a .resume) s))
           (d .exactly ∙ sym (rw (← kept, ← resume) at (e .exactly)))
 
       groups : a .groups ≡ c .groups
       groups =
-          d .grouped ∙ ap (λ k. groupsFrom (startAt (factors s) k) (d .middle)) kept ∙ ap (groupsFrom (startAt (factors s) (c .kept))) middle
+          d .grouped ∙ ap (λ k. groupsFrom (startAt (factors s) k) (spelled (edited s from to b) (a .groups))) kept ∙ ap (groupsFrom (startAt (factors s) (c .kept))) middle
           ∙ sym (e .grouped)
 
       counts : a .groupCount ≡ c .groupCount
@@ -121,6 +122,6 @@ module _ (s : List ℕ) (from to : ℕ) (b : List ℕ) where
       places : a .startCount ≡ c .startCount
       places = d .countsStarts ∙ ap length starts ∙ sym (e .countsStarts)
 
-pub demand-three-only : (s : List ℕ) (from to : ℕ) (b : List ℕ) → from ≤ to → to ≤ length s → (a : Answer) → DemandThree s from to b a
+pub demand-three-only : (s : List ℕ) (from to : ℕ) (b : List ℕ) → from ≤ to → to ≤ length s → (a : Answer) → MeetsThree s from to b a
     → a ≡ answer s from to b
 demand-three-only s from to b h k a d = demand-three-unique s from to b a (answer s from to b) d (demand-three s from to b h k)

@@ -1,6 +1,7 @@
--- The theorems about the definitions, for the auditor: each is a statement over specs/ and what Answer and Joined define, and a citation of
--- its proof. They say that the tests agree with the propositions, that the computed definitions mean what the papers say, and that the owner's
--- demands 2 and 3 and the law of the seams hold for all patterns and all edits with from ≤ to ≤ length s.
+-- The theorems about the definitions, for the auditor: each is a statement over specs/, what Answer and Joined define and four records that
+-- stand with their laws (Packed, Within, FactorAt, FirstOver), and a citation of its proof. They say that the tests agree with the propositions,
+-- that the computed definitions mean what the papers say, and that the owner's demands 2 and 3 and the law of the seams hold for all patterns and
+-- all edits with from ≤ to ≤ length s.
 use mathlib.Core.Bool.{true, false}
 use mathlib.Core.List.{List, [], _∷_, _++_}
 use mathlib.Core.Logic.{_↔_}
@@ -8,18 +9,19 @@ use mathlib.Core.Path.{_≡_, refl}
 use Prim.Native.Nat.{ℕ, _+_, _-_, _*_, _^_, _≤_, _<_}
 use lib.ListN.{length, take, drop, getD}
 use Rattle.words.specs.Order.{Less, less, smaller, shared, Lyndon, lyndon}
-use Rattle.words.specs.Factors.{Factorisation, factors, Group, wordOf, groupsFrom}
+use Rattle.words.specs.Factors.{Factorisation, factors, Group, wordOf, spelled, groupsFrom, groupNumbers, numberGroups}
 use Rattle.words.specs.Tables.{LyndonAt, longestAt, lyndonArray, lastFactor, lastFactors, longest, longestStarts, longestWord, groups}
 use Rattle.words.specs.Rotation.{rotation, leastRotation, UniqueLeast, Repeated, repeated}
 use Rattle.words.specs.Tree.{split, treeNodes, Node}
-use Rattle.words.specs.Edit.{Answer, edited, middleGroups, bits}
-use Rattle.words.proofs.Answer.{answer}
-use Rattle.words.specs.Demand.{Member, DemandTwo, DemandThree}
+use Rattle.words.specs.Edit.{edited, middleGroups, bits}
+use Rattle.words.specs.Demand.{Member, DemandTwo}
+use Rattle.words.proofs.Answer.{Answer, answer, MeetsThree}
 use Rattle.words.proofs.Order.{less-true, true-less}
 use Rattle.words.proofs.Shared as shared-laws
 use Rattle.words.proofs.Lyndon.{lyndon-true, true-lyndon}
 use Rattle.words.proofs.Factors.{Within, within, factorisation, factors-falling, join-factors}
 use Rattle.words.proofs.Groups.{Packed, packed, packed-only}
+use Rattle.words.proofs.Spelled as spelled-laws
 use Rattle.words.proofs.Longest as longest-laws
 use Rattle.words.proofs.Substrings as substrings
 use Rattle.words.proofs.Tables as tables
@@ -29,7 +31,7 @@ use Rattle.words.proofs.Repeated as repeats
 use Rattle.words.proofs.UniqueLeast as unique-laws
 use Rattle.words.proofs.Tree as trees
 use Rattle.words.proofs.Fresh as fresh
-use Rattle.words.proofs.Edit as edits
+use Rattle.words.proofs.Demand as demands
 use Rattle.words.proofs.Joined as joined-laws
 use Rattle.words.proofs.Joined.{joinEqual, keptGroups, resumedGroups}
 use Rattle.words.proofs.Neighbours as neighbours
@@ -69,6 +71,13 @@ demand-two s = record { qualities = factorisation s (factors s) .1 refl; only = 
 -- groups: spelled out they are the factors, powers are at least 1, and neighbouring groups have different words; nothing else is so
 pub groups-maximal : (i : ℕ) (fs : List (List ℕ)) (gs : List Group) → Packed i fs gs ↔ (gs ≡ groupsFrom i fs)
 groups-maximal i fs gs = (packed-only, λ e. rw e (packed i fs))
+
+-- the groups of a pattern spelled out are its factors, and groups read off the front of a row that they were written to are the same
+pub groups-spelled : (s : List ℕ) → spelled s (groups s) ≡ factors s
+groups-spelled = spelled-laws.groups-spelled
+
+pub number-groups : (gs : List Group) (rest : List ℕ) → numberGroups (length gs) (groupNumbers gs ++ rest) ≡ gs
+number-groups = spelled-laws.number-groups
 
 -- of two neighbouring groups the second's word is smaller, and so another one; each word has as many symbols as its group says
 pub next-smaller : (s : List ℕ) (before : List Group) (g h : Group) (after : List Group) → groups s ≡ before ++ g ∷ h ∷ after
@@ -161,11 +170,11 @@ pub bits-fewest : (m d : ℕ) → m < 2 ^ d → bits m ≤ d
 bits-fewest = fresh.bits-least
 
 -- the answer to an edit
-pub demand-three : (s : List ℕ) (from to : ℕ) (b : List ℕ) → from ≤ to → to ≤ length s → DemandThree s from to b (answer s from to b)
-demand-three = edits.demand-three
+pub demand-three : (s : List ℕ) (from to : ℕ) (b : List ℕ) → from ≤ to → to ≤ length s → MeetsThree s from to b (answer s from to b)
+demand-three = demands.demand-three
 
 -- no other answer meets it
-pub demand-three-only : (s : List ℕ) (from to : ℕ) (b : List ℕ) → from ≤ to → to ≤ length s → (a : Answer) → DemandThree s from to b a
+pub demand-three-only : (s : List ℕ) (from to : ℕ) (b : List ℕ) → from ≤ to → to ≤ length s → (a : Answer) → MeetsThree s from to b a
     → a ≡ answer s from to b
 demand-three-only = only-laws.demand-three-only
 

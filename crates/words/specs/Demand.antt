@@ -1,16 +1,16 @@
 -- Demands 2 and 3 of the owner, as records. `factors` is pinned by demand 2, so demand 3 may speak of it.
--- proofs/Theorems proves that `factors` meets the one and the answer of `Edit` the other, for every from ≤ to ≤ length s.
+-- proofs/Theorems proves that `factors` meets the one and the numbers, groups and starts of `Edit` and `Tables` the other, for every
+-- from ≤ to ≤ length s.
 use mathlib.Core.List.{List, [], _∷_, _++_}
 use mathlib.Core.Logic.{_⊎_, _↔_}
 use mathlib.Core.Path.{_≡_}
 use Prim.Native.Nat.{ℕ, suc, _+_, _≤_, _<_}
 use lib.ListN.{length, take, drop, getD}
-use Rattle.words.specs.Factors.{Factorisation, factors, startAt, groupsFrom}
+use Rattle.words.specs.Factors.{Factorisation, factors, startAt, Group, groupsFrom, spelled}
 use Rattle.words.specs.Tables.{LyndonAt}
-use Rattle.words.specs.Edit.{edited, place, bits, Answer}
+use Rattle.words.specs.Edit.{edited, place, bits}
 
--- Demand 2: the factors are Lyndon words, none smaller than the next, joined they are the pattern,
--- and every split with these qualities is the one reported.
+-- Demand 2: the factors reported have the three qualities, and every split with these qualities is the one reported.
 pub record DemandTwo (s : List ℕ) (fs : List (List ℕ)) : Type 0 where
   pub qualities : Factorisation s fs
   pub only : (gs : List (List ℕ)) → Factorisation s gs → gs ≡ fs
@@ -37,29 +37,29 @@ pub record ResumePoint (s : List ℕ) (from to : ℕ) (b : List ℕ) (p : ℕ) :
   pub stored : p ≤ length s
   pub start : (p ≡ length s) ⊎ FactorStart (edited s from to b) (place from to b p)
 
--- Demand 3: what holds of the answer to every accepted edit, all together.
-pub record DemandThree (s : List ℕ) (from to : ℕ) (b : List ℕ) (a : Answer) : Type 0 where
+-- Demand 3: what holds of the answer to every accepted edit, all together: of the five numbers, the groups and the starts of the longest words.
+pub record DemandThree (s : List ℕ) (from to : ℕ) (b : List ℕ) (kept resume groupCount size startCount : ℕ) (groups : List Group) (starts : List ℕ) : Type 0 where
   -- fresh groups at most (binary digits of the edit's start) + (block length) + 1
-  pub bound : a .groupCount ≤ bits from + length b + 1
-  -- kept leading factors, the middle groups, and the factors of the stored ending from the resume point
-  -- are in this order exactly the factors of the edited pattern
-  pub middle : List (List ℕ)
-  pub grouped : a .groups ≡ groupsFrom (startAt (factors s) (a .kept)) middle
-  pub exactly : take (a .kept) (factors s) ++ (middle ++ factors (drop (a .resume) s)) ≡ factors (edited s from to b)
+  pub bound : groupCount ≤ bits from + length b + 1
+  -- kept leading factors, the middle groups, each word as often as its power says, and the factors of the stored ending from the
+  -- resume point are in this order exactly the factors of the edited pattern
+  pub exactly : take kept (factors s) ++ (spelled (edited s from to b) groups ++ factors (drop resume s)) ≡ factors (edited s from to b)
+  -- each group is a longest stretch of equal words among them, and stands where it says
+  pub grouped : groups ≡ groupsFrom (startAt (factors s) kept) (spelled (edited s from to b) groups)
   -- as many as can be kept
-  pub keeps : Kept s (edited s from to b) from (a .kept)
-  pub most : (c : ℕ) → Kept s (edited s from to b) from c → c ≤ a .kept
+  pub keeps : Kept s (edited s from to b) from kept
+  pub most : (c : ℕ) → Kept s (edited s from to b) from c → c ≤ kept
   -- the earliest resume point
-  pub resumes : ResumePoint s from to b (a .resume)
-  pub earliest : (p : ℕ) → ResumePoint s from to b p → a .resume ≤ p
+  pub resumes : ResumePoint s from to b resume
+  pub earliest : (p : ℕ) → ResumePoint s from to b p → resume ≤ p
   -- every Lyndon substring is at most as long as the reported length
-  pub longest : (l i : ℕ) → LyndonAt (edited s from to b) l i → l ≤ a .longest
+  pub longest : (l i : ℕ) → LyndonAt (edited s from to b) l i → l ≤ size
   -- a place is listed exactly when a Lyndon substring of that length starts there, once and ascending
-  pub listed : (i : ℕ) → Member i (a .starts) ↔ LyndonAt (edited s from to b) (a .longest) i
-  pub ascending : (k : ℕ) → suc k < length (a .starts) → getD (a .starts) k 0 < getD (a .starts) (suc k) 0
+  pub listed : (i : ℕ) → Member i starts ↔ LyndonAt (edited s from to b) size i
+  pub ascending : (k : ℕ) → suc k < length starts → getD starts k 0 < getD starts (suc k) 0
   -- both counts are right
-  pub countsGroups : a .groupCount ≡ length (a .groups)
-  pub countsStarts : a .startCount ≡ length (a .starts)
+  pub countsGroups : groupCount ≡ length groups
+  pub countsStarts : startCount ≡ length starts
   -- at least one place unless the edited pattern is empty, where the length is 0
-  pub some : 0 < length (edited s from to b) → 0 < a .startCount
-  pub none : edited s from to b ≡ [] → a .longest ≡ 0
+  pub some : 0 < length (edited s from to b) → 0 < startCount
+  pub none : edited s from to b ≡ [] → size ≡ 0

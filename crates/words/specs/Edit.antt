@@ -22,15 +22,11 @@ abbrev pub sameAll : List (List ℕ) → List (List ℕ) → Bool
 sameAll [] [] = true
 sameAll [] (g ∷ gs) = false
 sameAll (f ∷ fs) [] = false
-sameAll (f ∷ fs) (g ∷ gs) =
-    let rest = sameAll fs gs in
-    same f g && rest
+sameAll (f ∷ fs) (g ∷ gs) = let rest = sameAll fs gs in same f g && rest
 
 abbrev pub member : ℕ → List ℕ → Bool
 member x [] = false
-member x (y ∷ ys) =
-    let rest = member x ys in
-    eqb x y || rest
+member x (y ∷ ys) = let rest = member x ys in eqb x y || rest
 
 -- Kept: the largest c for which the first c factors of the stored pattern end at or before `from`
 -- and are the first c factors of the edited one.
@@ -51,9 +47,7 @@ resume s from to b =
 -- Of factors that stand from place i on, those that start before place q.
 abbrev pub startingBefore : ℕ → ℕ → List (List ℕ) → List (List ℕ)
 startingBefore q i [] = []
-startingBefore q i (f ∷ fs) =
-    let rest = startingBefore q (i + length f) fs in
-    cond (ltb i q) (f ∷ rest) rest
+startingBefore q i (f ∷ fs) = let rest = startingBefore q (i + length f) fs in cond (ltb i q) (f ∷ rest) rest
 
 -- Middle: the factors of the edited pattern but its first c and those that start at or after place q.
 unfoldable pub middleOf : ℕ → ℕ → List (List ℕ) → List (List ℕ)
@@ -69,13 +63,3 @@ middleGroups s from to b = groupsFrom (startAt (factors s) (kept s from to b)) (
 -- The binary digits of a number: the smallest d for which it is below 2 to the power d.
 unfoldable pub bits : ℕ → ℕ
 bits m = smallest (λ d. ltb m (2 ^ d)) m
-
--- What one call answers: the numbers, and the groups and starts that fill the first entries of the lent rows.
-pub record Answer : Type 0 where
-  pub kept : ℕ
-  pub resume : ℕ
-  pub groups : List Group
-  pub groupCount : ℕ
-  pub longest : ℕ
-  pub starts : List ℕ
-  pub startCount : ℕ

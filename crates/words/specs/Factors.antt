@@ -5,7 +5,7 @@ use mathlib.Core.Bool.{Bool, true, false}
 use mathlib.Core.List.{List, [], _∷_, _++_}
 use mathlib.Core.Path.{_≡_}
 use Prim.Native.Nat.{ℕ, zero, suc, _+_, _<_}
-use lib.ListN.{length, take, drop, getD}
+use lib.ListN.{length, take, drop, getD, replicate}
 use Rattle.words.specs.Bounded.{largest}
 use Rattle.words.specs.Order.{Less, Lyndon, lyndon, same}
 
@@ -28,9 +28,7 @@ longestPrefix s = largest (λ l. lyndon (take l s)) (length s)
 abbrev pub factorsUpTo : ℕ → List ℕ → List (List ℕ)
 factorsUpTo zero s = []
 factorsUpTo (suc n) [] = []
-factorsUpTo (suc n) (x ∷ xs) =
-    let p = longestPrefix (x ∷ xs) in
-    take p (x ∷ xs) ∷ factorsUpTo n (drop p (x ∷ xs))
+factorsUpTo (suc n) (x ∷ xs) = let p = longestPrefix (x ∷ xs) in take p (x ∷ xs) ∷ factorsUpTo n (drop p (x ∷ xs))
 
 -- A pattern has no more factors than symbols.
 unfoldable pub factors : List ℕ → List (List ℕ)
@@ -55,6 +53,11 @@ pub record Group : Type 0 where
 abbrev pub wordOf : List ℕ → Group → List ℕ
 wordOf s g = take (g .size) (drop (g .start) s)
 
+-- Groups of factors of s spelled out: the word of each, as often as its power says.
+abbrev pub spelled : List ℕ → List Group → List (List ℕ)
+spelled s [] = []
+spelled s (g ∷ gs) = replicate (g .power) (wordOf s g) ++ spelled s gs
+
 abbrev pub startsWith : List ℕ → List (List ℕ) → Bool
 startsWith f [] = false
 startsWith f (g ∷ gs) = same f g
@@ -74,3 +77,8 @@ groupsFrom i (f ∷ fs) = withFactor (startsWith f fs) i (length f) (groupsFrom 
 abbrev pub groupNumbers : List Group → List ℕ
 groupNumbers [] = []
 groupNumbers (g ∷ gs) = g .start ∷ g .size ∷ g .power ∷ groupNumbers gs
+
+-- The first k groups of such a row.
+abbrev pub numberGroups : ℕ → List ℕ → List Group
+numberGroups zero row = []
+numberGroups (suc k) row = record { start = getD row 0 0; size = getD row 1 0; power = getD row 2 0 } ∷ numberGroups k (drop 3 row)

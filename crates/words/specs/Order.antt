@@ -20,19 +20,14 @@ abbrev pub less : List ℕ → List ℕ → Bool
 less [] [] = false
 less [] (y ∷ ys) = true
 less (x ∷ xs) [] = false
-less (x ∷ xs) (y ∷ ys) =
-    let rest = less xs ys in
-    let later = eqb x y && rest in
-    ltb x y || later
+less (x ∷ xs) (y ∷ ys) = let rest = less xs ys in let later = eqb x y && rest in ltb x y || later
 
 -- The same string.
 abbrev pub same : List ℕ → List ℕ → Bool
 same [] [] = true
 same [] (y ∷ ys) = false
 same (x ∷ xs) [] = false
-same (x ∷ xs) (y ∷ ys) =
-    let rest = same xs ys in
-    eqb x y && rest
+same (x ∷ xs) (y ∷ ys) = let rest = same xs ys in eqb x y && rest
 
 -- Which of two strings is smaller, if any: 1 the first, 2 the second, 0 where neither is.
 unfoldable pub smaller : List ℕ → List ℕ → ℕ

@@ -1,6 +1,6 @@
 -- `edit_core::core` meets its contract: refused by the first of the tests that holds, or filled from the edited pattern.
 use lib.ListN.{length}
-use Rattle.edit.specs.Inner.{roomRefusals}
+use Rattle.edit.specs.Core.{roomRefusals}
 use Rattle.cuts.proofs.Spliced.{spliced-within, spliced-long}
 use Rattle.edit_core.proofs.Accepted.{fills-first, fills-later, passed-accepted}
 use Rattle.edit_refusal.proofs.Passed.{passed-shape}

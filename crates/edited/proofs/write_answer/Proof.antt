@@ -1,6 +1,5 @@
 -- `edited::write_answer` meets its contract: the tables are right and the rows long enough, so that only 2, 3 and 4 refuse the edit.
-use Rattle.edited.proofs.Taken.{taken}
-use Rattle.edited.proofs.Printed.{line-room, refused-output, edited-output}
+use Rattle.edited.proofs.Printed.{line-room, refused-output, edited-output, taken}
 use borrow.Author.Needs.{needs}
 use Rattle.edit.proofs.Filled.{max-middle}
 use Rattle.edited.proofs.write_answer.Statement.{statement}
@@ -8,10 +7,10 @@ use Rattle.edited.proofs.write_answer.Tie as tie
 use Rattle.edited.proofs.write_answer.Reads as reads
 use Rattle.edited.proofs.write_answer.Lts as lts
 use Rattle.edited.proofs.refusal_of.Reads as refusal-of-reads
+use Rattle.edit_core.proofs.core.Reads as core-reads
 use Rattle.edited_text.proofs.write_edited.Reads as write-edited-reads
 use Rattle.lyndon.proofs.last_factors.Reads as last-factors-reads
 use Rattle.lyndon.proofs.lyndon_array.Reads as lyndon-array-reads
-use Rattle.lyndon_edit.proofs.edit_numbers.Reads as edit-numbers-reads
 use Rattle.text.proofs.write_refusal.Reads as write-refusal-reads
 
 slice-aggregate-lyndon-array : tie.Need-slice-aggregate-lyndon-array
@@ -26,20 +25,20 @@ slice-aggregate-last-factors c = search needs
 last-factors-requires : tie.Need-last-factors-requires
 last-factors-requires c κs = search needs
 
-slice-aggregate-edit-numbers : tie.Need-slice-aggregate-edit-numbers
-slice-aggregate-edit-numbers c = search needs
+slice-aggregate-core : tie.Need-slice-aggregate-core
+slice-aggregate-core c = search needs
 
-slice-aggregate-edit-numbers-2 : tie.Need-slice-aggregate-edit-numbers-2
-slice-aggregate-edit-numbers-2 c = search needs
+slice-aggregate-core-2 : tie.Need-slice-aggregate-core-2
+slice-aggregate-core-2 c = search needs
 
-slice-aggregate-edit-numbers-3 : tie.Need-slice-aggregate-edit-numbers-3
-slice-aggregate-edit-numbers-3 c = search needs
+slice-aggregate-core-3 : tie.Need-slice-aggregate-core-3
+slice-aggregate-core-3 c = search needs
 
-slice-aggregate-edit-numbers-4 : tie.Need-slice-aggregate-edit-numbers-4
-slice-aggregate-edit-numbers-4 c = search needs
+slice-aggregate-core-4 : tie.Need-slice-aggregate-core-4
+slice-aggregate-core-4 c = search needs
 
-edit-numbers-requires : tie.Need-edit-numbers-requires
-edit-numbers-requires c κs = search needs
+core-requires : tie.Need-core-requires
+core-requires c κs = search (needs, max-middle)
 
 enum-told : tie.Need-enum-told
 enum-told c = search needs
@@ -67,13 +66,17 @@ returns c =
     let f = c .before .before .before .before .before .before .before .before .before .before .before .before .before .before .before .before .before .before .before .before .before .before .before in
     let a = f .args in
     refused-output (a .pattern .now) (a .from) (a .to) (a .block .now) (f .pre .0) (c .before .before .before .before .before .before .before .before .before .before .before .before .before .before .before .before .before .before .lyndon-array .ensures) (search needs)
-    (c .before .before .before .before .before .before .before .before .before .before .before .before .before .before .before .last-factors .ensures) (search needs) (answered .edit-numbers .ensures) (search (needs, max-middle)) (search needs)
+    (c .before .before .before .before .before .before .before .before .before .before .before .before .before .before .before .last-factors .ensures) (search needs) (answered .core .ensures) (search (needs, max-middle)) (search needs)
     (c .before .before .before .before .before .enum-told2 .given .1) (c .before .before .before .before .refusal-of .ensures) (c .before .before .write-refusal .ensures)
 
 write-edited-requires : tie.Need-write-edited-requires
 write-edited-requires c κs =
     let f = c .before .before .before .before .before .before .before .before .before .before .before .before .before .before .before .before .before .before .before in
-    taken (c .before .before .before .before .before .edit-numbers .ensures) (c .before .enum-told .given .1) (f .args .text .now) (f .pre .1)
+    let a = f .args in
+    let answered = c .before .before .before .before .before in
+    taken (a .pattern .now) (a .from) (a .to) (a .block .now) (f .pre .0) (c .before .before .before .before .before .before .before .before .before .before .before .before .before .before .lyndon-array .ensures) (search needs)
+    (c .before .before .before .before .before .before .before .before .before .before .before .last-factors .ensures) (search needs) (answered .core .ensures) (search (needs, max-middle)) (search needs)
+    (a .text .now) (c .before .enum-told .given .1) (f .pre .1)
 
 same-length-2 : tie.Need-same-length-2
 same-length-2 c = search needs
@@ -84,7 +87,7 @@ returns-2 c =
     let f = c .before .before .before .before .before .before .before .before .before .before .before .before .before .before .before .before .before .before .before .before .before .before in
     let a = f .args in
     edited-output (a .pattern .now) (a .from) (a .to) (a .block .now) (f .pre .0) (c .before .before .before .before .before .before .before .before .before .before .before .before .before .before .before .before .before .lyndon-array .ensures) (search needs)
-    (c .before .before .before .before .before .before .before .before .before .before .before .before .before .before .last-factors .ensures) (search needs) (answered .edit-numbers .ensures) (search (needs, max-middle)) (search needs)
+    (c .before .before .before .before .before .before .before .before .before .before .before .before .before .before .last-factors .ensures) (search needs) (answered .core .ensures) (search (needs, max-middle)) (search needs)
     (c .before .before .before .before .enum-told .given .1) (c .before .before .write-edited .ensures)
 
 pub write-answer-spec : {M : Type 1} → statement M
@@ -95,11 +98,11 @@ write-answer-spec =
     lyndon-array-requires
     slice-aggregate-last-factors
     last-factors-requires
-    slice-aggregate-edit-numbers
-    slice-aggregate-edit-numbers-2
-    slice-aggregate-edit-numbers-3
-    slice-aggregate-edit-numbers-4
-    edit-numbers-requires
+    slice-aggregate-core
+    slice-aggregate-core-2
+    slice-aggregate-core-3
+    slice-aggregate-core-4
+    core-requires
     enum-told
     enum-told-2
     refusal-of-requires

@@ -12,7 +12,7 @@ use Rattle.text.proofs.write_refusal.Reads as write-refusal-reads
 write-refusal-requires : tie.Need-write-refusal-requires
 write-refusal-requires c κs =
     let f = c .before .before .before .before .before .before in
-    line-room 1 (f .args .text .now) (search needs) (f .pre)
+    line-room _ (f .args .text .now) (search needs) (f .pre)
 
 same-length : tie.Need-same-length
 same-length c = search needs
@@ -32,7 +32,7 @@ enum-told c = search needs
 write-refusal-requires-2 : tie.Need-write-refusal-requires-2
 write-refusal-requires-2 c κs =
     let f = c .before .before .before .before .before .before .before .before .before in
-    line-room 2 (f .args .text .now) (search needs) (f .pre)
+    line-room _ (f .args .text .now) (search needs) (f .pre)
 
 same-length-2 : tie.Need-same-length-2
 same-length-2 c = search needs

@@ -49,10 +49,9 @@ use Rattle.records.specs.declared.Group.{Group}
 use Rattle.edit.specs.declared.Answer.{Answer}
 use Rattle.records.specs.Groups.{filled}
 use Rattle.edit.proofs.Filled.{max-middle}
+use Rattle.edit.specs.Core.{allRefusals}
 use Rattle.edit.specs.Inner.{countOf, FillsNumbers}
-use Rattle.words.specs.Edit.{middleGroups}
-use Rattle.lyndon_edit.specs.Calls.{allRefusals, EditsRecords}
-use Rattle.lyndon_edit.proofs.Recorded.{row-fits, numbers-fit, records-answered}
+use Rattle.lyndon_edit.proofs.Answered.{row-fits, numbers-fit, edit-answered}
 use Rattle.records.proofs.LocalArray as LA
 use Rattle.records.proofs.Group as T
 use Rattle.edit.proofs.Answer as Ans
@@ -136,7 +135,7 @@ module _ {M : Type 1} (𝓤 : URA M) (H : Heap 𝓤) (A : Atoms 𝓤) (W : Given
 
   -- what `core` ensures, of the last lists and the answer
   abbrev CoreSays : List ℕ → List ℕ → Answer → Type 0
-  CoreSays x-numbers′ x-starts′ r = FillsNumbers (allRefusals (x-pattern .now) (x-array .now) (x-last .now) x-from x-to (x-block .now) (length (middleGroups (x-pattern .now) x-from x-to (x-block .now))) (length (x-middle .now)) (length (x-starts .now))) (x-pattern .now) x-from x-to (x-block .now) zeros x-numbers′ (x-starts .now) x-starts′ r
+  CoreSays x-numbers′ x-starts′ r = FillsNumbers (allRefusals (x-pattern .now) (x-array .now) (x-last .now) x-from x-to (x-block .now) (length (x-middle .now)) (length (x-starts .now))) (x-pattern .now) x-from x-to (x-block .now) zeros x-numbers′ (x-starts .now) x-starts′ r
 
   typed : (r : Answer) (w : Val) → Is Ans.the-row r (w ∷ []) → Holds (hasTy Ans′.mir w) × WT w
   typed r w is = EL.lawful Ans.the-type Ans′.the-laws 𝓤 H A W tt .typed r _ is .0
@@ -146,7 +145,7 @@ module _ {M : Type 1} (𝓤 : URA M) (H : Heap 𝓤) (A : Atoms 𝓤) (W : Given
   exits x-numbers′ x-starts′ x-middle′ r w n said counts stored x-middle-long x-starts-long =
       qed W (‵ (flft κ₀ q₀) ∷ ‵ (flft κ₁ q₁) ∷ ‵ (flft κ₂ q₂) ∷ ‵ (flft κ₃ q₃) ∷ ‵ (flft κ₄ q₄) ∷ ‵ (flft κ₅ q₅) ∷ ‵ (Own-x-pattern) ∷ ‵ (Own-x-array) ∷ ‵ (Own-x-last) ∷ ‵ (Own-x-block) ∷ ‵ (Ans.the-row .own r (w ∷ [])) ∷ ‵ (finally T.the-row (x-middle .name) x-middle′) ∷ ‵ (finally u16 (x-starts .name) x-starts′) ∷ []) ∵
       suffices ! _ (ends-at 𝓤 H A thin.ended stayed (thin.clauses 𝓤 H A mem run) W (((κ₀, (κ₁, (κ₂, (κ₃, (κ₄, (κ₅, tt)))))), (q₀, (q₁, (q₂, (q₃, (q₄, (q₅, tt)))))), tt, a, vals), tt) w r (tt, (tt, (tt, (tt, (tt, (tt, (x-middle′, (x-starts′, tt)))))))) (tt, (tt, (tt, (tt, (tt, (tt, (x-middle-long, (x-starts-long, tt))))))))) $
-      says ! (records-answered (x-pattern .now) (x-array .now) (x-last .now) x-from x-to (x-block .now) (x-middle .now) zeros x-numbers′ (x-starts .now) x-starts′ r said n counts x-middle′ stored) $
+      says ! (edit-answered (x-pattern .now) (x-array .now) (x-last .now) x-from x-to (x-block .now) (x-middle .now) zeros x-numbers′ (x-starts .now) x-starts′ r said n counts x-middle′ stored) $
       nothing ! $ move ! (6 ∷ 0 ∷ []) $ join ! $ move ! (5 ∷ 0 ∷ []) $ join ! $ move ! (4 ∷ 0 ∷ []) $ join ! $ move ! (3 ∷ 0 ∷ []) $ join ! $ move ! (2 ∷ 0 ∷ []) $ join ! $ move ! (1 ∷ 0 ∷ []) $ join ! $ frame ! $ nothing ! $ move ! (7 ∷ 0 ∷ []) $ fjoin ! $ move ! (6 ∷ 0 ∷ []) $ fjoin ! $ move ! (4 ∷ 0 ∷ []) $ fjoin ! $ owned ! usize (Is usize) (uint-makes 𝓤 H A W w64) x-to _ (refl, x-to-fits) $ fjoin ! $ owned ! usize (Is usize) (uint-makes 𝓤 H A W w64) x-from _ (refl, x-from-fits) $ fjoin ! $ move ! (3 ∷ 0 ∷ []) $ fjoin ! $ move ! (2 ∷ 0 ∷ []) $ fjoin ! $ move ! (1 ∷ 0 ∷ []) $ fjoin ! $ done !
 
   -- ---- what each callee's triple binds outside, and that the caller has what it asks. l is the array's place

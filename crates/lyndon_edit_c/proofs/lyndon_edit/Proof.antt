@@ -46,7 +46,7 @@ use Rattle.records.proofs.Group as T
 use Rattle.edit.specs.declared.Answer.{Answer}
 use Rattle.edit.proofs.Answer as Ans
 use Rattle.edit.proofs.Answer.Laws as Ans′
-use Rattle.lyndon_edit.specs.Calls.{EditsRecords}
+use Rattle.lyndon_edit.specs.Calls.{EditAnswered}
 use Rattle.lyndon_edit.proofs.edit as edit
 use Rattle.lyndon_edit.proofs.edit.Symbol as edit-def
 use Rattle.lyndon_edit.proofs.edit.Symbol.{name as #lyndon-edit·edit}
@@ -147,7 +147,7 @@ module _ {M : Type 1} (𝓤 : URA M) (H : Heap 𝓤) (A : Atoms 𝓤) (W : Given
   Lasts = Unit {0} × (Unit {0} × (Unit {0} × (Unit {0} × (Unit {0} × (Unit {0} × (List Group × (List ℕ × Unit {0})))))))
 
   abbrev EditSays : List Group → List ℕ → Answer → Type 0
-  EditSays m′ t′ r = EditsRecords (s .now) (array .now) (last .now) lo hi (b .now) (m .now) m′ (t .now) t′ r
+  EditSays m′ t′ r = EditAnswered (s .now) (array .now) (last .now) lo hi (b .now) (m .now) m′ (t .now) t′ r
 
   exits : (m′ : List Group) (t′ : List ℕ) (r : Answer) (f : EditAnswer) (v : Val) → EditSays m′ t′ r → f ≡ flatOf r
       → length m′ ≡ length (m .now) → length t′ ≡ length (t .now)

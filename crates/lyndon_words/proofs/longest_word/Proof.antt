@@ -1,31 +1,20 @@
--- `lyndon_words::longest_word` meets its contract: the measured word is the first of the longest, and lies within the pattern.
-use Prim.Native.Nat.{_+_, _-_}
-use mathlib.Core.Path.{_≡_, ap}
-use Rattle.longest.specs.Best.{longestOf}
-use Rattle.lyndon_words.proofs.Simple.{word-long, word-part, word-within}
-use borrow.Author.Needs.{needs}
+-- `lyndon_words::longest_word` meets its contract: the word lies within the pattern, and the part is cut at its place.
 use native.Mathlib.Omega.{arith}
+use Rattle.lyndon_words.proofs.Simple.{place-within, word-cut}
+use borrow.Author.Needs.{needs}
 use Rattle.lyndon_words.proofs.longest_word.Statement.{statement}
 use Rattle.lyndon_words.proofs.longest_word.Tie as tie
 use Rattle.lyndon_words.proofs.longest_word.Reads as reads
 use Rattle.lyndon_words.proofs.longest_word.Lts as lts
-use Rattle.longest.proofs.measure.Reads as measure-reads
+use Rattle.lyndon_words.proofs.longest_word_place.Reads as longest-word-place-reads
 
-slice-aggregate-result : tie.Need-slice-aggregate-result
-slice-aggregate-result c = search needs
-
-returns : tie.Need-returns
-returns c = word-long (c .before .before .before .args .pattern .now) (search needs)
-
-measure-requires : tie.Need-measure-requires
-measure-requires c κs = search needs
+longest-word-place-requires : tie.Need-longest-word-place-requires
+longest-word-place-requires c κs = search needs
 
 add-end : tie.Need-add-end
-unfolding longestOf
 add-end c =
-    let m = c .before .measure .ensures in
-    let s = c .before .before .before .before .args .pattern .now in
-    omega (arith, ap (λ r. r .start) m, ap (λ r. r .length) m, word-within s)
+    let w = c .before .longest-word-place in
+    omega (arith, place-within (c .before .before .before .args .pattern .now) (w .result .start) (w .result .length) (w .ensures))
 
 sub-result : tie.Need-sub-result
 sub-result c = search needs
@@ -34,29 +23,23 @@ part-result-start : tie.Need-part-result-start
 part-result-start c = search needs
 
 part-result-end : tie.Need-part-result-end
-unfolding longestOf
 part-result-end c =
-    let m = c .before .measure .ensures in
-    let s = c .before .before .before .before .args .pattern .now in
-    omega (arith, ap (λ r. r .start) m, ap (λ r. r .length) m, word-within s)
+    let w = c .before .longest-word-place in
+    omega (arith, place-within (c .before .before .before .args .pattern .now) (w .result .start) (w .result .length) (w .ensures))
 
-returns-2 : tie.Need-returns-2
-unfolding longestOf
-returns-2 c =
-    let m = c .before .before .measure in
-    let s = c .before .before .before .before .before .args .pattern .now in
-    let n : m .result .start + m .result .length - m .result .start ≡ m .result .length = omega arith in
-    rw n (word-part s (search needs) (m .result .start) (m .result .length) (ap (λ r. r .start) (m .ensures)) (ap (λ r. r .length) (m .ensures)))
+returns : tie.Need-returns
+returns c =
+    let w = c .before .before .longest-word-place in
+    let p = c .before .before .before .before .args .pattern in
+    word-cut (p .now) (w .result .start) (w .result .length) (w .ensures) (p .ptr)
 
 pub longest-word-spec : {M : Type 1} → statement M
 longest-word-spec =
     tie.close
     (tie.spec
-    slice-aggregate-result
-    returns
-    measure-requires
+    longest-word-place-requires
     add-end
     sub-result
     part-result-start
     part-result-end
-    returns-2)
+    returns)
