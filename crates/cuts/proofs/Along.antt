@@ -1,5 +1,6 @@
 -- Passes over factors: the first `count` of them end at i. One more factor or some words of one group more, and where the pass stops.
 use mathlib.Core.List.{List, _++_}
+use mathlib.Core.Logic.{_⊎_, inl, inr}
 use mathlib.Core.Path.{_≡_, refl, sym, ap, _∙_}
 use Prim.Native.Nat.{ℕ, zero, suc, _+_, _-_, _*_, _/_, _≤_, _<_}
 use native.Mathlib.Nat.{div-mul-le-self, lt-div-mul-add, div-lt-iff-lt-mul, mul-le-mul-right}
@@ -9,6 +10,8 @@ use lib.ListN.{length, take, drop, getD, replicate}
 use lib.Seq.{drop-drop}
 use Rattle.words.specs.Factors.{factors, startAt}
 use Rattle.words.specs.Tables.{longestAt, lyndonArray}
+use borrow.Author.Tests.{lt-ltb, le-ltb, le-leb, lt-leb}
+use Rattle.words.proofs.Bounded.{le-or-lt}
 use Rattle.words.proofs.Below.{word-length}
 use Rattle.words.proofs.Factors.{factors-falling}
 use Rattle.words.proofs.EditParts.{end-apart, end-all, end-next, factors-after}
@@ -16,7 +19,8 @@ use Rattle.words.proofs.Stored.{stored-long, stored-entry}
 use Rattle.words.proofs.Tables.{chain-suffix, longest-at-some, longest-at-fits, lyndon-array-length}
 use Rattle.scan.specs.Group.{NextGroup}
 use Rattle.scan.proofs.Next.{next-words}
-use Rattle.cuts.specs.Bounds.{EndsBy}
+use Rattle.cuts.specs.declared.Ends.{Ends}
+use Rattle.cuts.specs.Bounds.{EndsBy, endsWith}
 
 -- the first `count` factors of t end at i
 pub record At (t : List ℕ) (count i : ℕ) : Type 0 where
@@ -89,8 +93,56 @@ module _ {t : List ℕ} {count i size power : ℕ} (a : At t count i) (g : NextG
       at-last (at-words a g k (omega (arith, few))) q (omega (arith, div-mul-le-self (q - i) size))
       (rw (← e) at (at-words a g (k + 1) (omega (arith, few)))) (omega (arith, lt-div-mul-add {a = q - i} (g .factor)))
 
-  pub inside-count : count + (q - i) / size ≤ q
-  inside-count = omega (arith, at-count (at-words a g ((q - i) / size) (omega (arith, few))), div-mul-le-self (q - i) size)
+-- what group after group joins to the ends by q
+module _ (ends : Ends) (q i l e : ℕ) where
+  pub ends-past : q < i → endsWith ends q i l e ≡ ends
+  unfolding endsWith
+  ends-past h = rw (lt-ltb q i h)
+
+  pub ends-whole : i ≤ q → i + e * l ≤ q → endsWith ends q i l e ≡ record { count = ends .count + e; end = i + e * l }
+  unfolding endsWith
+  ends-whole h k = rw (le-ltb q i h, le-leb (i + e * l) q k)
+
+  pub ends-inside : i ≤ q → q < i + e * l → endsWith ends q i l e ≡ record { count = ends .count + (q - i) / l; end = i + (q - i) / l * l }
+  unfolding endsWith
+  ends-inside h k = rw (le-ltb q i h, lt-leb (i + e * l) q k)
+
+-- the factors before place i: all end by q, or those that do are counted
+pub record Counted (t : List ℕ) (q i : ℕ) (ends : Ends) : Type 0 where
+  pub before : i ≤ q → At t (ends .count) i × (ends .end ≡ i)
+  pub past : q < i → EndsBy (factors t) q (ends .count) (ends .end)
+
+pub counted-none : (t : List ℕ) (q : ℕ) → Counted t q 0 (record { count = 0; end = 0 })
+counted-none t q = record { before = λ h. (at-start t, refl); past = λ h. absurd (omega arith) }
+
+module _ {t : List ℕ} {q i : ℕ} {ends : Ends} (c : Counted t q i ends) where
+  pub counted-few : ends .count ≤ i
+  counted-few = go (le-or-lt i q)
+    where
+      go : (i ≤ q) ⊎ (q < i) → ends .count ≤ i
+      go (inl h) = at-count (c .before h .0)
+      go (inr h) =
+          let e = c .past h in
+          omega (arith, at-count (record { within = e .within; at = e .at }), e .before)
+
+  pub counted-more : {l e : ℕ} → NextGroup t i l e → Counted t q (i + e * l) (endsWith ends q i l e)
+  counted-more {l} {e} g = go (le-or-lt i q) (le-or-lt (i + e * l) q)
+    where
+      go : (i ≤ q) ⊎ (q < i) → (i + e * l ≤ q) ⊎ (q < i + e * l) → Counted t q (i + e * l) (endsWith ends q i l e)
+      go (inr h) k = rw (ends-past ends q i l e h) (record { before = λ m. absurd (omega arith); past = λ m. c .past h })
+      go (inl h) (inl k) =
+          rw (ends-whole ends q i l e h k)
+          (record { before = λ m. (at-words (c .before h .0) g e (omega arith), refl); past = λ m. absurd (omega arith) })
+      go (inl h) (inr k) =
+          rw (ends-inside ends q i l e h k)
+          (record { before = λ m. absurd (omega arith); past = λ m. at-inside (c .before h .0) g q h k })
+
+  pub counted-all : length t ≤ i → EndsBy (factors t) q (ends .count) (ends .end)
+  counted-all h = go (le-or-lt i q)
+    where
+      go : (i ≤ q) ⊎ (q < i) → EndsBy (factors t) q (ends .count) (ends .end)
+      go (inl k) = rw (c .before k .1) (at-end (c .before k .0) q h k)
+      go (inr k) = c .past k
 
 -- the entry of a stored Lyndon array
 module _ (s table : List ℕ) (i : ℕ) (e : take (length s) table ≡ lyndonArray s) (h : i < length s) where

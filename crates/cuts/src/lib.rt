@@ -1,15 +1,14 @@
 // Where the factors of a stored and of an edited pattern end and start around an edit, and the splicing of the edited pattern.
 // Refusals and rows are left to the crates above.
 use rows::write_bytes;
-use scan::next_group;
 ghost use mathlib.Core.Path.{_≡_};
-ghost use Prim.Native.Nat.{_+_, _-_, _≤_};
+ghost use Prim.Native.Nat.{_+_, _-_, _*_, _≤_, _<_};
 ghost use lib.ListN.{length, take};
 ghost use Rattle.rows.specs.Row.{written};
 ghost use Rattle.words.specs.Edit.{edited};
 ghost use Rattle.words.specs.Factors.{factors};
 ghost use Rattle.words.specs.Tables.{lyndonArray};
-ghost use Rattle.cuts.specs.Bounds.{Boundary, EndsBy, StartsBy};
+ghost use Rattle.cuts.specs.Bounds.{EndsBy, endsWith, startWith};
 
 // Writes the edited pattern to the front of t.
 pub fn splice(s: &[u8], from: usize, to: usize, block: &[u8], t: &mut [u8])
@@ -45,43 +44,39 @@ pub fn stored_ends(s: &[u8], table: &[u16], q: usize) -> Ends
     Ends { count, end }
 }
 
-// Of any pattern.
-pub fn scanned_ends(t: &[u8], q: usize) -> Ends
-    ensures { λ r. ⌜ EndsBy (factors (now (t .entry))) q (r .count) (r .end) ⌝ }
+// Of any pattern, group by group: the ends by place q, when a group from i on joins the factors before it.
+pub fn ends_with(ends: Ends, q: usize, i: usize, length: usize, power: usize) -> Ends
+    requires { ⌜ (0 < length) × (i + power * length < 18446744073709551616) × (ends .count + power < 18446744073709551616) ⌝ }
+    ensures { λ r. ⌜ r ≡ endsWith ends q i length power ⌝ }
 {
-    let mut count = 0;
-    let mut i = 0;
-    while i < t.len() {
-        let g = next_group(t, i);
-        let l = g.length;
-        let end = i + g.power * l;
-        if q < end {
-            let k = (q - i) / l;
-            return Ends {
-                count: count + k,
-                end: i + k * l,
-            };
-        }
-        count += g.power;
-        i = end;
+    if q < i {
+        return ends;
     }
-    Ends { count, end: i }
+    let end = i + power * length;
+    if end <= q {
+        return Ends {
+            count: ends.count + power,
+            end,
+        };
+    }
+    let k = (q - i) / length;
+    Ends {
+        count: ends.count + k,
+        end: i + k * length,
+    }
 }
 
-// The first start of a factor at or after q, or the end, looked for from the start of a factor on that is not past q.
-pub fn first_start(t: &[u8], start: usize, q: usize) -> usize
-    requires { ⌜ Boundary (factors (now t)) start × (start ≤ q) × (q ≤ length (now t)) ⌝ }
-    ensures { λ r. ⌜ StartsBy (factors (now (t .entry))) q r ⌝ }
+// The first start of a factor at or after q, or the end of the last, when a group from i on joins the factors before it.
+pub fn start_with(place: usize, q: usize, i: usize, length: usize, power: usize) -> usize
+    requires { ⌜ (0 < length) × (i + power * length + length < 18446744073709551616) ⌝ }
+    ensures { λ r. ⌜ r ≡ startWith place q i length power ⌝ }
 {
-    let mut i = start;
-    while i < t.len() {
-        let g = next_group(t, i);
-        let l = g.length;
-        let end = i + g.power * l;
-        if q <= end {
-            return i + (q - i + l - 1) / l * l;
-        }
-        i = end;
+    if q <= i {
+        return place;
     }
-    i
+    let end = i + power * length;
+    if end <= q {
+        return end;
+    }
+    i + (q - i + length - 1) / length * length
 }

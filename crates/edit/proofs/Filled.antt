@@ -2,11 +2,10 @@
 use mathlib.Core.Bool.{false}
 use mathlib.Core.List.{List}
 use mathlib.Core.Path.{_≡_, refl, sym, ap, _∙_}
-use Prim.Native.Nat.{ℕ, suc, _*_, _≤_, _<_, min}
+use Prim.Native.Nat.{ℕ, suc, _+_, _*_, _≤_, _<_, min}
 use native.Mathlib.Omega.{arith}
 use lib.Dec.{ltb}
 use lib.ListN.{length, take}
-use lib.Seq.{length-take-le}
 use borrow.Author.Tests.{lt-ltb, le-ltb}
 use Rattle.refusals.specs.Refusals.{Refusal, firstOf, maxPattern, maxBlock}
 use Rattle.rows.specs.Row.{written}
@@ -14,14 +13,15 @@ use Rattle.words.specs.Edit.{edited, place, kept, resume, middleGroups, bits}
 use Rattle.words.specs.Factors.{join, factors, startAt, groupNumbers}
 use Rattle.words.specs.Tables.{suffixGroups, longest, longestStarts}
 use Rattle.words.proofs.Edit.{resumeFactor, kept-same, kept-first, resume-first, middle-bound}
-use Rattle.words.proofs.EditParts.{end-grows, end-le}
+use Rattle.words.proofs.EditParts.{starting-le}
 use Rattle.words.proofs.Fresh.{bits-grows}
 use Rattle.words.proofs.Middle.{middle-suffix}
-use Rattle.longest.specs.Best.{longestOf}
+use Rattle.longest.specs.Best.{longestOf, Measures}
 use Rattle.longest.specs.declared.Longest.{Longest}
 use Rattle.seams.proofs.Meets.{edited-short}
 use Rattle.edit.specs.Core.{countsOf, roomRefusals}
 use Rattle.edit.specs.Inner.{maxMiddle, FillsNumbers}
+use Rattle.edit.specs.Rows.{Between}
 use Rattle.seams.specs.Seams.{Accepted, planOf}
 use Rattle.edit.specs.declared.Counts.{Counts}
 use Rattle.edit.specs.declared.Answer.the-variants.{Done, Refused}
@@ -52,11 +52,6 @@ counts-same : {k l r u g h n m x y : ℕ} → k ≡ l → r ≡ u → g ≡ h �
     (record { kept = l; resume = u; groups = h; length = m; starts = y })
 counts-same a b c d e = rw (a, b, c, d, e) refl
 
-pub write-starts-asks : {s array : List ℕ} {from to : ℕ} {b t : List ℕ} → Accepted s array from to b t → {found : Longest} → found ≡ longestOf t
-    → {size : ℕ} → found .count ≤ size → (length t ≤ 65535) × (found .length ≡ longest t) × (length (longestStarts t) ≤ size)
-unfolding longestOf
-write-starts-asks a f h = (omega (arith, edited-short a), ap (λ q. q .length) f, omega (arith, ap (λ q. q .count) f))
-
 module _ {s array : List ℕ} {from to : ℕ} {b t : List ℕ} (a : Accepted s array from to b t) {p : Seams} (e : p ≡ planOf s from to b) where
   placed : p .place ≡ place from to b (resume s from to b)
   unfolding planOf
@@ -69,18 +64,31 @@ module _ {s array : List ℕ} {from to : ℕ} {b t : List ℕ} (a : Accepted s a
   starts-at : p .place ≡ startAt (factors (edited s from to b)) (resumeFactor s from to b)
   starts-at = placed ∙ resume-first s from to b (a .start) (a .stretch)
 
-  pub place-within : p .place ≤ length t
-  place-within = omega (arith, starts-at, end-le (resumeFactor s from to b) (edited s from to b), ap length (a .spliced))
+  same-end : startAt (factors s) (kept s from to b) ≡ startAt (factors (edited s from to b)) (kept s from to b)
+  same-end = ap (λ fs. length (join fs)) (kept-same s from to b (a .start) (a .stretch))
 
-  pub front-long : p .place ≡ length (take (p .place) t)
-  front-long = sym (length-take-le (p .place) t place-within)
+  resume-within : resumeFactor s from to b ≤ length (factors (edited s from to b))
+  resume-within = starting-le (from + length b) (factors (edited s from to b))
 
-  pub end-within : p .end ≤ length (take (p .place) t)
-  end-within =
-      let same = ap (λ fs. length (join fs)) (kept-same s from to b (a .start) (a .stretch)) in
+  pub seams-between : Between t (p .end) (p .place)
+  seams-between =
       let first = kept-first s from to b (a .start) (a .stretch) in
-      let grows = end-grows (kept s from to b) (resumeFactor s from to b) (factors (edited s from to b)) first in
-      omega (arith, front-long, ended, same, grows, starts-at)
+      let here = ap (λ u. factors u) (a .spliced) in
+      record {
+        first =
+            record {
+              index = kept s from to b;
+              within = omega (arith, ap length here, first, resume-within);
+              at = ap (λ fs. startAt fs (kept s from to b)) here ∙ sym same-end ∙ sym ended;
+            };
+        second =
+            record {
+              index = resumeFactor s from to b;
+              within = omega (arith, ap length here, resume-within);
+              at = ap (λ fs. startAt fs (resumeFactor s from to b)) here ∙ sym starts-at;
+            };
+        order = first;
+      }
 
   groups-are : suffixGroups (take (p .place) t) (p .end) ≡ middleGroups s from to b
   groups-are = rw (placed, ended, a .spliced) (middle-suffix s from to b (a .start) (a .stretch))
@@ -92,10 +100,13 @@ module _ {s array : List ℕ} {from to : ℕ} {b t : List ℕ} (a : Accepted s a
     groups-pass : {room : ℕ} → n ≤ room → ltb room (length (middleGroups s from to b)) ≡ false
     groups-pass {room} h = le-ltb room (length (middleGroups s from to b)) (omega (arith, counted))
 
-    pub write-groups-asks : {room size : ℕ} → 3 * min room maxMiddle ≤ size → n ≤ room
-        → (length (take (p .place) t) ≤ 65535) × (p .end ≤ length (take (p .place) t))
-        × (3 * length (suffixGroups (take (p .place) t) (p .end)) ≤ size)
-    write-groups-asks h k = (omega (arith, front-long, place-within, edited-short a), end-within, omega (arith, counted, middle-few s from to b (a .start) (a .stretch) (a .pattern) (a .block), g))
+    groups-room : {room size : ℕ} → 3 * min room maxMiddle ≤ size → n ≤ room → 3 * length (suffixGroups (take (p .place) t) (p .end)) ≤ size
+    groups-room h k = omega (arith, counted, middle-few s from to b (a .start) (a .stretch) (a .pattern) (a .block), g)
+
+    pub rows-asks : {found : Longest} {run room size long : ℕ} → Measures t found run → 3 * min room maxMiddle ≤ size → n ≤ room → found .count ≤ long
+        → Between t (p .end) (p .place) × Measures t found run × (length t ≤ 65535)
+        × (3 * length (suffixGroups (take (p .place) t) (p .end)) ≤ size) × (found .count ≤ long)
+    rows-asks m h k l = (seams-between, m, omega (arith, edited-short a), groups-room h k, l)
 
     module _ {found : Longest} (f : found ≡ longestOf t) where
       listed : found .count ≡ length (longestStarts (edited s from to b))

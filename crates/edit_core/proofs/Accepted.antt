@@ -42,16 +42,32 @@ module _ (s array last : List ℕ) (from to : ℕ) (b : List ℕ) where
     shape : Shaped s from to b
     shape = passed-shape s array last from to b first zero
 
-    -- the front of the row to which the edited pattern was spliced
-    pub passed-accepted : (row : List ℕ) {row′ : List ℕ} → row′ ≡ written (edited s from to b) row
-        → Accepted s array from to b (take (from + length b + (length s - to)) row′)
-    passed-accepted row w =
+    pub passed-accepted : Accepted s array from to b (edited s from to b)
+    passed-accepted =
         record {
           start = shape .start;
           stretch = shape .stretch;
           pattern = shape .pattern;
           block = shape .block;
           table = passed-table s array last from to b first zero;
-          spliced = spliced-edited s from to b (shape .start) (shape .stretch) row w;
+          spliced = refl;
           fits = omega (arith, length-edited s from to b (shape .start) (shape .stretch), shape .fits);
         }
+
+module _ {s array : List ℕ} {from to : ℕ} {b : List ℕ} (a : Accepted s array from to b (edited s from to b)) where
+  pub edited-long : length (edited s from to b) ≡ from + length b + (length s - to)
+  edited-long = length-edited s from to b (a .start) (a .stretch)
+
+  -- the front of the row to which the edited pattern was spliced
+  pub accepted-spliced : (row : List ℕ) {row′ : List ℕ} → row′ ≡ written (edited s from to b) row
+      → Accepted s array from to b (take (from + length b + (length s - to)) row′)
+  accepted-spliced row w =
+      record {
+        start = a .start;
+        stretch = a .stretch;
+        pattern = a .pattern;
+        block = a .block;
+        table = a .table;
+        spliced = spliced-edited s from to b (a .start) (a .stretch) row w;
+        fits = a .fits;
+      }

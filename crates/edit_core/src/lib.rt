@@ -7,8 +7,172 @@ use edit_refusal::refusal;
 use refusals::MAX_PATTERN;
 ghost use Prim.Native.Nat.{_*_, _≤_, min};
 ghost use lib.ListN.{length};
-ghost use Rattle.edit.specs.Core.{allRefusals};
+ghost use Rattle.edit.specs.Core.{allRefusals, roomRefusals};
 ghost use Rattle.edit.specs.Inner.{maxMiddle, FillsNumbers};
+ghost use Rattle.refusals.specs.Refusals.{maxPattern};
+ghost use Rattle.seams.specs.Seams.{Accepted};
+ghost use Rattle.words.specs.Edit.{edited};
+
+// Two lengths of a buffer shorter than the longest pattern.
+const SHORT: usize = 256;
+
+const MEDIUM: usize = 4096;
+
+// The answer to an accepted edit, with a buffer for the edited pattern.
+fn answer_in(
+    pattern: &[u8],
+    array: &[u16],
+    from: usize,
+    to: usize,
+    block: &[u8],
+    room: usize,
+    t: &mut [u8],
+    numbers: &mut [u16],
+    starts: &mut [u16],
+) -> Answer
+    requires { ⌜ Accepted (now pattern) (now array) from to (now block) (edited (now pattern) from to (now block)) × (length (edited (now pattern) from to (now block)) ≤ length (now t)) × (3 * min room maxMiddle ≤ length (now numbers)) ⌝ }
+    ensures { λ r. ⌜ FillsNumbers (roomRefusals (now (pattern .entry)) from to (now (block .entry)) room (length (now (starts .entry)))) (now (pattern .entry)) from to (now (block .entry)) (now (numbers .entry)) (now (numbers .exit)) (now (starts .entry)) (now (starts .exit)) r ⌝ }
+{
+    splice(pattern, from, to, block, t);
+    let m = from + block.len() + (pattern.len() - to);
+    fill(
+        pattern,
+        array,
+        from,
+        to,
+        block,
+        &t[..m],
+        room,
+        numbers,
+        starts,
+    )
+}
+
+// The same with a buffer of its own: a short pattern does not pay for the clearing of a long one.
+fn answer_short(
+    pattern: &[u8],
+    array: &[u16],
+    from: usize,
+    to: usize,
+    block: &[u8],
+    room: usize,
+    numbers: &mut [u16],
+    starts: &mut [u16],
+) -> Answer
+    requires { ⌜ Accepted (now pattern) (now array) from to (now block) (edited (now pattern) from to (now block)) × (length (edited (now pattern) from to (now block)) ≤ 256) × (3 * min room maxMiddle ≤ length (now numbers)) ⌝ }
+    ensures { λ r. ⌜ FillsNumbers (roomRefusals (now (pattern .entry)) from to (now (block .entry)) room (length (now (starts .entry)))) (now (pattern .entry)) from to (now (block .entry)) (now (numbers .entry)) (now (numbers .exit)) (now (starts .entry)) (now (starts .exit)) r ⌝ }
+{
+    let mut t = [0u8; SHORT];
+    answer_in(
+        pattern,
+        array,
+        from,
+        to,
+        block,
+        room,
+        &mut t,
+        numbers,
+        starts,
+    )
+}
+
+// The same for patterns of some length.
+fn answer_medium(
+    pattern: &[u8],
+    array: &[u16],
+    from: usize,
+    to: usize,
+    block: &[u8],
+    room: usize,
+    numbers: &mut [u16],
+    starts: &mut [u16],
+) -> Answer
+    requires { ⌜ Accepted (now pattern) (now array) from to (now block) (edited (now pattern) from to (now block)) × (length (edited (now pattern) from to (now block)) ≤ 4096) × (3 * min room maxMiddle ≤ length (now numbers)) ⌝ }
+    ensures { λ r. ⌜ FillsNumbers (roomRefusals (now (pattern .entry)) from to (now (block .entry)) room (length (now (starts .entry)))) (now (pattern .entry)) from to (now (block .entry)) (now (numbers .entry)) (now (numbers .exit)) (now (starts .entry)) (now (starts .exit)) r ⌝ }
+{
+    let mut t = [0u8; MEDIUM];
+    answer_in(
+        pattern,
+        array,
+        from,
+        to,
+        block,
+        room,
+        &mut t,
+        numbers,
+        starts,
+    )
+}
+
+// The same for all others.
+fn answer_long(
+    pattern: &[u8],
+    array: &[u16],
+    from: usize,
+    to: usize,
+    block: &[u8],
+    room: usize,
+    numbers: &mut [u16],
+    starts: &mut [u16],
+) -> Answer
+    requires { ⌜ Accepted (now pattern) (now array) from to (now block) (edited (now pattern) from to (now block)) × (length (edited (now pattern) from to (now block)) ≤ maxPattern) × (3 * min room maxMiddle ≤ length (now numbers)) ⌝ }
+    ensures { λ r. ⌜ FillsNumbers (roomRefusals (now (pattern .entry)) from to (now (block .entry)) room (length (now (starts .entry)))) (now (pattern .entry)) from to (now (block .entry)) (now (numbers .entry)) (now (numbers .exit)) (now (starts .entry)) (now (starts .exit)) r ⌝ }
+{
+    let mut t = [0u8; MAX_PATTERN];
+    answer_in(
+        pattern,
+        array,
+        from,
+        to,
+        block,
+        room,
+        &mut t,
+        numbers,
+        starts,
+    )
+}
+
+// The same with the shortest buffer that holds the edited pattern, of the two longer ones.
+fn answer_longer(
+    pattern: &[u8],
+    array: &[u16],
+    from: usize,
+    to: usize,
+    block: &[u8],
+    room: usize,
+    numbers: &mut [u16],
+    starts: &mut [u16],
+) -> Answer
+    requires { ⌜ Accepted (now pattern) (now array) from to (now block) (edited (now pattern) from to (now block)) × (length (edited (now pattern) from to (now block)) ≤ maxPattern) × (3 * min room maxMiddle ≤ length (now numbers)) ⌝ }
+    ensures { λ r. ⌜ FillsNumbers (roomRefusals (now (pattern .entry)) from to (now (block .entry)) room (length (now (starts .entry)))) (now (pattern .entry)) from to (now (block .entry)) (now (numbers .entry)) (now (numbers .exit)) (now (starts .entry)) (now (starts .exit)) r ⌝ }
+{
+    let m = from + block.len() + (pattern.len() - to);
+    if m <= MEDIUM {
+        return answer_medium(pattern, array, from, to, block, room, numbers, starts);
+    }
+    answer_long(pattern, array, from, to, block, room, numbers, starts)
+}
+
+// The answer to an accepted edit, with the shortest of the three buffers: the cost goes with the pattern.
+fn answer(
+    pattern: &[u8],
+    array: &[u16],
+    from: usize,
+    to: usize,
+    block: &[u8],
+    room: usize,
+    numbers: &mut [u16],
+    starts: &mut [u16],
+) -> Answer
+    requires { ⌜ Accepted (now pattern) (now array) from to (now block) (edited (now pattern) from to (now block)) × (length (edited (now pattern) from to (now block)) ≤ maxPattern) × (3 * min room maxMiddle ≤ length (now numbers)) ⌝ }
+    ensures { λ r. ⌜ FillsNumbers (roomRefusals (now (pattern .entry)) from to (now (block .entry)) room (length (now (starts .entry)))) (now (pattern .entry)) from to (now (block .entry)) (now (numbers .entry)) (now (numbers .exit)) (now (starts .entry)) (now (starts .exit)) r ⌝ }
+{
+    let m = from + block.len() + (pattern.len() - to);
+    if m <= SHORT {
+        return answer_short(pattern, array, from, to, block, room, numbers, starts);
+    }
+    answer_longer(pattern, array, from, to, block, room, numbers, starts)
+}
 
 // The answer to an edit, with room for `room` groups. The groups go to `numbers`, three each.
 pub fn core(
@@ -29,18 +193,5 @@ pub fn core(
     if number != 0 {
         return Answer::Refused(number);
     }
-    let mut t = [0u8; MAX_PATTERN];
-    splice(pattern, from, to, block, &mut t);
-    let m = from + block.len() + (pattern.len() - to);
-    fill(
-        pattern,
-        array,
-        from,
-        to,
-        block,
-        &t[..m],
-        room,
-        numbers,
-        starts,
-    )
+    answer(pattern, array, from, to, block, room, numbers, starts)
 }

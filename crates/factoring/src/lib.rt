@@ -2,8 +2,8 @@
 // Each is one pass by Duval's scan; that the row is long enough is the caller's concern.
 use scan::next_group;
 ghost use mathlib.Core.Path.{_≡_};
-ghost use Prim.Native.Nat.{_*_, _≤_};
-ghost use lib.ListN.{length};
+ghost use Prim.Native.Nat.{_+_, _*_, _≤_};
+ghost use lib.ListN.{length, set};
 ghost use Rattle.rows.specs.Row.{written};
 ghost use Rattle.words.specs.Factors.{factors, groupNumbers};
 ghost use Rattle.words.specs.Tables.{lastLength, suffixGroups};
@@ -23,21 +23,30 @@ pub fn count_groups(s: &[u8], from: usize) -> usize
     count
 }
 
-// Writes the groups from a place on, three numbers each.
-pub fn write_groups(s: &[u8], from: usize, row: &mut [u16])
+// Writes a group to three entries of a row.
+pub fn write_group(row: &mut [u16], at: usize, start: usize, size: usize, power: usize)
+    requires { ⌜ (at + 3 ≤ length (now row)) × (start ≤ 65535) × (size ≤ 65535) × (power ≤ 65535) ⌝ }
+    ensures { λ _. ⌜ now (row .exit) ≡ set (set (set (now (row .entry)) at start) (at + 1) size) (at + 2) power ⌝ }
+{
+    row[at] = start as u16;
+    row[at + 1] = size as u16;
+    row[at + 2] = power as u16;
+}
+
+// Writes the groups from a place on, three numbers each, and answers how many there are.
+pub fn fill_groups(s: &[u8], from: usize, row: &mut [u16]) -> usize
     requires { ⌜ (length (now s) ≤ 65535) × (from ≤ length (now s)) × (3 * length (suffixGroups (now s) from) ≤ length (now row)) ⌝ }
-    ensures { λ _. ⌜ now (row .exit) ≡ written (groupNumbers (suffixGroups (now (s .entry)) from)) (now (row .entry)) ⌝ }
+    ensures { λ r. ⌜ (r ≡ length (suffixGroups (now (s .entry)) from)) × (now (row .exit) ≡ written (groupNumbers (suffixGroups (now (s .entry)) from)) (now (row .entry))) ⌝ }
 {
     let mut at = 0;
     let mut start = from;
     while start < s.len() {
         let g = next_group(s, start);
-        row[at] = start as u16;
-        row[at + 1] = g.length as u16;
-        row[at + 2] = g.power as u16;
+        write_group(row, at, start, g.length, g.power);
         at += 3;
         start += g.power * g.length;
     }
+    at / 3
 }
 
 // The length of the last factor of a pattern, 0 for the empty one.

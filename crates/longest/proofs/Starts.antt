@@ -4,26 +4,22 @@ use mathlib.Core.Bool.{Bool, true, false, cond}
 use mathlib.Core.List.{List, [], _∷_, _++_, append-assoc}
 use mathlib.Core.Logic.{inl, inr, _↔_}
 use mathlib.Core.Path.{_≡_, refl, sym, ap, _∙_}
-use Prim.Native.Nat.{ℕ, zero, suc, _+_, _*_, _<_}
+use Prim.Native.Nat.{ℕ, zero, suc, _+_, _*_, _≤_, _<_}
 use native.Mathlib.Omega.{arith}
 use lib.Dec.{eqb}
-use lib.ListN.{length, take, getD, replicate, length-append}
+use lib.ListN.{length, take, drop, getD, replicate, length-append, take-append-drop}
 use borrow.Author.Tests.{eqb-true, eq-eqb}
-use Rattle.words.specs.Factors.{join, factors, Group, groupsFrom}
-use Rattle.words.specs.Tables.{groups, longest, longestStarts, lyndonStarts}
+use Rattle.words.specs.Factors.{join, factors, startAt, Group, groupsFrom}
+use Rattle.words.specs.Tables.{groups, suffixGroups, longest, longestStarts, lyndonStarts}
 use Rattle.words.specs.Demand.{Member}
+use lib.Seq.{take-take}
+use Rattle.words.proofs.EditParts.{join-split, factors-after, factors-part}
 use Rattle.words.proofs.Groups.{Packed, none, more, packed}
 use Rattle.words.proofs.Longest.{FactorAt, factor-lyndon-at, longest-factors, longest-factor}
 use Rattle.words.proofs.Places.{AllAfter, Ascending, ascending-next, lyndon-at-some}
 use Rattle.words.proofs.Only.{ascending-unique}
 use Rattle.words.proofs.Substrings.{longest-listed, longest-ascending}
-use Rattle.longest.specs.Best.{runFrom}
-
-abbrev pub startsOf : ℕ → List Group → List ℕ
-startsOf l [] = []
-startsOf l (g ∷ gs) =
-    let rest = startsOf l gs in
-    cond (eqb (g .size) l) (runFrom (g .start) (g .size) (g .power) ++ rest) rest
+use Rattle.longest.specs.Best.{runFrom, startsOf}
 
 pub starts-append : (l : ℕ) (gs hs : List Group) → startsOf l (gs ++ hs) ≡ startsOf l gs ++ startsOf l hs
 starts-append l [] hs = refl
@@ -70,6 +66,47 @@ starts-repeat l i (suc e) f fs rest q =
 packed-starts : (l : ℕ) {i : ℕ} {fs : List (List ℕ)} {gs : List Group} → Packed i fs gs → startsOf l gs ≡ factorStarts l i fs
 packed-starts l none = refl
 packed-starts l {i} (more e f fs {gs} n h p) = sym (starts-repeat l i e f fs (startsOf l gs) (sym (packed-starts l p)))
+
+factor-starts-append : (l i : ℕ) (fs gs : List (List ℕ)) → factorStarts l i (fs ++ gs) ≡ factorStarts l i fs ++ factorStarts l (i + length (join fs)) gs
+factor-starts-append l i [] gs =
+    let e : i ≡ i + 0 = omega arith in
+    ap (λ k. factorStarts l k gs) e
+factor-starts-append l i (f ∷ fs) gs =
+    let e : i + length f + length (join fs) ≡ i + length (f ++ join fs) = omega (arith, length-append f (join fs)) in
+    go (eqb (length f) l) (factor-starts-append l (i + length f) fs gs ∙ ap (λ k. factorStarts l (i + length f) fs ++ factorStarts l k gs) e)
+  where
+    later : List ℕ
+    later = factorStarts l (i + length (f ++ join fs)) gs
+
+    go : (b : Bool) → factorStarts l (i + length f) (fs ++ gs) ≡ factorStarts l (i + length f) fs ++ later
+        → cond b (i ∷ factorStarts l (i + length f) (fs ++ gs)) (factorStarts l (i + length f) (fs ++ gs))
+        ≡ cond b (i ∷ factorStarts l (i + length f) fs) (factorStarts l (i + length f) fs) ++ later
+    go true q = ap {B = List ℕ} (λ u. i ∷ u) q
+    go false q = q
+
+drop-split : (c d : ℕ) (fs : List (List ℕ)) → c ≤ d → drop c fs ≡ drop c (take d fs) ++ drop d fs
+drop-split zero d fs h = sym (take-append-drop d fs)
+drop-split (suc c) zero fs h = absurd (omega arith)
+drop-split (suc c) (suc d) [] h = refl
+drop-split (suc c) (suc d) (f ∷ fs) h = drop-split c d fs (omega arith)
+
+-- the starts from one boundary on: those up to another, and those from there on
+pub starts-part : (l : ℕ) (t : List ℕ) (c d : ℕ) → c ≤ d → startsOf l (suffixGroups t (startAt (factors t) c))
+    ≡ startsOf l (suffixGroups (take (startAt (factors t) d) t) (startAt (factors t) c)) ++ startsOf l (suffixGroups t (startAt (factors t) d))
+unfolding suffixGroups
+starts-part l t c d h =
+    let fs = factors t in
+    let a = startAt fs c in
+    let b = startAt fs d in
+    let split : drop c fs ≡ drop c (take d fs) ++ drop d fs = drop-split c d fs h in
+    let e : a + length (join (drop c (take d fs))) ≡ b = omega (arith, ap length (join-split c (take d fs)), length-append (join (take c (take d fs))) (join (drop c (take d fs))), ap (λ gs. length (join gs)) (take-take c d fs h)) in
+    packed-starts l (packed a (factors (drop a t))) ∙ ap (factorStarts l a) (factors-after c t ∙ split)
+    ∙ factor-starts-append l a (drop c (take d fs)) (drop d fs)
+    ∙ ap (λ k. factorStarts l a (drop c (take d fs)) ++ factorStarts l k (drop d fs)) e
+    ∙ ap (λ gs. factorStarts l a gs ++ factorStarts l b (drop d fs)) (sym (factors-part c d t h))
+    ∙ ap (λ gs. factorStarts l a (factors (drop a (take b t))) ++ factorStarts l b gs) (sym (factors-after d t))
+    ∙ ap (λ u. u ++ factorStarts l b (factors (drop b t))) (sym (packed-starts l (packed a (factors (drop a (take b t))))))
+    ∙ ap (λ u. startsOf l (groupsFrom a (factors (drop a (take b t)))) ++ u) (sym (packed-starts l (packed b (factors (drop b t)))))
 
 -- the k-th factor is of length l and stands at j
 record Placed (l i : ℕ) (fs : List (List ℕ)) (j : ℕ) : Type 0 where

@@ -1,18 +1,19 @@
 -- The starts of one group's factors are written to a row one by one, and those of all groups with the longest factors group by group.
-use mathlib.Core.List.{List, _++_, append-assoc}
+use mathlib.Core.List.{List, _++_}
 use mathlib.Core.Path.{_≡_, refl, sym, ap, _∙_}
 use Prim.Native.Nat.{ℕ, suc, _+_, _*_, _-_, _≤_, _<_}
 use native.Mathlib.Omega.{arith}
-use lib.ListN.{length, take, drop, set, length-append, take-append-drop}
-use lib.Seq.{drop-drop, length-take-le}
+use lib.ListN.{length, take, set, length-append}
+use lib.Seq.{take-all}
 use borrow.Author.Tests.{eq-eqb, ne-eqb}
 use Rattle.words.specs.Tables.{suffixGroups, longest, longestStarts}
 use Rattle.rows.specs.Row.{written, writtenAt}
-use Rattle.rows.proofs.Wrote.{Wrote, wrote-none, wrote-one, wrote-part, wrote-all, wrote-room, wrote-length}
+use Rattle.rows.proofs.Wrote.{Wrote, wrote-one, wrote-part, wrote-from, wrote-to, wrote-room, wrote-length}
 use Rattle.scan.specs.Group.{NextGroup}
 use Rattle.scan.proofs.Next.{groups-start, suffix-end}
-use Rattle.longest.specs.Best.{runFrom}
-use Rattle.longest.proofs.Starts.{startsOf, longest-starts}
+use Rattle.longest.specs.declared.Longest.{Longest}
+use Rattle.longest.specs.Best.{longestOf, runFrom, startsOf, Measures}
+use Rattle.longest.proofs.Starts.{longest-starts}
 use Rattle.longest.proofs.Seen.{length-run}
 
 -- k of a group's starts stand in the row from place `at` on; i is the next
@@ -23,19 +24,12 @@ pub record Run (d row : List ℕ) (at start size power k i : ℕ) : Type 0 where
 
 pub run-none : (d : List ℕ) (at start size power : ℕ) → at + power ≤ length d → Run d d at start size power 0 start
 run-none d at start size power h =
-    let n = length-take-le at d (omega arith) in
     let z : power - 0 ≡ power = omega arith in
+    let e : at + 0 ≡ at = omega arith in
     record {
       upto = omega arith;
       place = rw z refl;
-      wrote =
-          record {
-            done = take at d;
-            parts = rw z refl;
-            size = omega (arith, n);
-            room = omega (arith, n, length-append (take at d) (runFrom start size power), length-run start size power);
-            holds = sym (take-append-drop at d) ∙ ap (λ m. take at d ++ drop m d) {x = at} {y = at + 0} (omega arith);
-          };
+      wrote = rw (z, e) (wrote-from at (runFrom start size power) d (omega (arith, length-run start size power)));
     }
 
 module _ {d row : List ℕ} {at start size power k i : ℕ} (w : Run d row at start size power k i) where
@@ -60,12 +54,9 @@ module _ {d row : List ℕ} {at start size power k i : ℕ} (w : Run d row at st
 
   pub run-all : power ≤ k → row ≡ writtenAt at (runFrom start size power) d
   run-all h =
-      let run = runFrom start size power in
       let z : power - k ≡ 0 = omega arith in
-      let n : length (take at d ++ run) ≡ at + length run =
-      omega (arith, length-append (take at d) run, length-take-le at d (omega (arith, run-room, run-long))) in
-      wrote-all (rw z at (w .wrote)) ∙ append-assoc (take at d) run (drop (length (take at d ++ run)) d)
-      ∙ ap (λ u. take at d ++ (run ++ u)) (ap (λ m. drop m d) n ∙ sym (drop-drop (length run) at d))
+      let n = length-run start size power in
+      wrote-to at (runFrom start size power) d (omega (arith, n, run-room, run-long)) (rw z at (w .wrote)) .1
 
 -- the starts of the groups before place i stand in the row, and the others are left
 module _ {s : List ℕ} {size i l e : ℕ} (g : NextGroup s i l e) where
@@ -89,10 +80,34 @@ module _ {s : List ℕ} {size i l e : ℕ} (g : NextGroup s i l e) where
     pub list-over : (l ≡ size → ⊥) → Wrote out d row at (startsOf size (suffixGroups s (i + e * l)))
     list-over q = rw (starts-other q) at w
 
-pub list-none : (s d : List ℕ) (size : ℕ) → size ≡ longest s → length (longestStarts s) ≤ length d
-    → Wrote (longestStarts s) d d 0 (startsOf size (suffixGroups s 0))
-list-none s d size e h = rw (e, ← groups-start s, longest-starts s) (wrote-none (longestStarts s) d h)
+-- all of them from a place on
+abbrev pub Listed : List ℕ → ℕ → ℕ → ℕ → List ℕ → List ℕ → ℕ → ℕ → Type 0
+Listed s from size at d row next i =
+    Wrote (take at d ++ startsOf size (suffixGroups s from)) d row next (startsOf size (suffixGroups s i))
 
-pub list-all : (s : List ℕ) (size i : ℕ) {out d row : List ℕ} {at : ℕ} → Wrote out d row at (startsOf size (suffixGroups s i)) → length s ≤ i
-    → row ≡ written out d
-list-all s size i w h = wrote-all (rw (suffix-end s i h) at w)
+module _ (s : List ℕ) (from size at : ℕ) (d : List ℕ) (room : at + length (startsOf size (suffixGroups s from)) ≤ length d) where
+  pub list-none : Listed s from size at d d at from
+  list-none = wrote-from at (startsOf size (suffixGroups s from)) d room
+
+  pub list-all : {row : List ℕ} {next i : ℕ} → Listed s from size at d row next i → length s ≤ i
+      → (next ≡ at + length (startsOf size (suffixGroups s from))) × (row ≡ writtenAt at (startsOf size (suffixGroups s from)) d)
+  list-all {row} {next} {i} w h = wrote-to at (startsOf size (suffixGroups s from)) d room (rw (suffix-end s i h) at w)
+
+pub longest-count : (s : List ℕ) {found : Longest} → found ≡ longestOf s → found .count ≡ length (longestStarts s)
+unfolding longestOf
+longest-count s e = ap (λ u. u .count) e
+
+-- the starts of the longest words are those of all factors of their length
+pub starts-longest : (s : List ℕ) {found : Longest} → found ≡ longestOf s → startsOf (found .length) (suffixGroups s 0) ≡ longestStarts s
+unfolding longestOf
+starts-longest s e = ap (λ u. startsOf (u .length) (suffixGroups s 0)) e ∙ ap (startsOf (longest s)) (sym (groups-start s)) ∙ longest-starts s
+
+module _ (s : List ℕ) {found : Longest} {run : ℕ} (m : Measures s found run) (d : List ℕ) {row : List ℕ} where
+  pub listed-written : row ≡ writtenAt 0 (startsOf (found .length) (suffixGroups s 0)) d → row ≡ written (longestStarts s) d
+  listed-written w = w ∙ ap (λ u. written u d) (starts-longest s (m .best))
+
+  -- one run holds them all
+  pub run-written : run ≡ found .count → row ≡ writtenAt 0 (runFrom (found .start) (found .length) run) d → row ≡ written (longestStarts s) d
+  run-written h w =
+      let all = take-all run (longestStarts s) (omega (arith, h, longest-count s (m .best))) in
+      w ∙ ap (λ u. written u d) (sym (m .first) ∙ all)

@@ -1,9 +1,11 @@
 -- What the measuring pass answers, and the parts that its functions are stated by.
 use mathlib.Core.Bool.{cond}
-use mathlib.Core.List.{List, [], _∷_}
-use Prim.Native.Nat.{ℕ, zero, suc, _+_}
-use lib.Dec.{ltb}
-use lib.ListN.{length}
+use mathlib.Core.List.{List, [], _∷_, _++_}
+use mathlib.Core.Path.{_≡_}
+use Prim.Native.Nat.{ℕ, zero, suc, _+_, _*_, _≤_}
+use lib.Dec.{ltb, eqb}
+use lib.ListN.{length, take}
+use Rattle.words.specs.Factors.{Group}
 use Rattle.words.specs.Tables.{longest, longestStarts, longestWord}
 use Rattle.longest.specs.declared.Longest.{Longest}
 
@@ -21,3 +23,20 @@ betterOf best i l e =
 abbrev pub runFrom : ℕ → ℕ → ℕ → List ℕ
 runFrom i l zero = []
 runFrom i l (suc e) = i ∷ runFrom (i + l) l e
+
+-- How many of the longest words stand in the first group that has them, after a group of this factor length and power.
+abbrev pub runOf : ℕ → ℕ → ℕ → ℕ → ℕ
+runOf run longest l e = cond (ltb longest l) e run
+
+-- What is measured: the first of the longest words and their number, and the run of its group, whose starts are the first.
+pub record Measures (s : List ℕ) (found : Longest) (run : ℕ) : Type 0 where
+  pub best : found ≡ longestOf s
+  pub first : take run (longestStarts s) ≡ runFrom (found .start) (found .length) run
+  pub fits : found .start + run * found .length ≤ length s
+
+-- The starts of all factors of one length, off their groups.
+abbrev pub startsOf : ℕ → List Group → List ℕ
+startsOf l [] = []
+startsOf l (g ∷ gs) =
+    let rest = startsOf l gs in
+    cond (eqb (g .size) l) (runFrom (g .start) (g .size) (g .power) ++ rest) rest

@@ -5,8 +5,8 @@ ghost use mathlib.Core.Path.{_≡_};
 ghost use Prim.Native.Nat.{_+_, _*_, _<_, _≤_};
 ghost use lib.ListN.{length};
 ghost use Rattle.rows.specs.Row.{written, writtenAt};
-ghost use Rattle.words.specs.Tables.{longest, longestStarts};
-ghost use Rattle.longest.specs.Best.{longestOf, betterOf, runFrom};
+ghost use Rattle.words.specs.Tables.{suffixGroups, longestStarts};
+ghost use Rattle.longest.specs.Best.{betterOf, runFrom, runOf, startsOf, Measures};
 
 // The first of the longest Lyndon substrings, and how many there are.
 pub struct Longest {
@@ -16,7 +16,7 @@ pub struct Longest {
 }
 
 // What is the longest when a group joins what was seen before it.
-fn better(best: Longest, start: usize, length: usize, power: usize) -> Longest
+pub fn better(best: Longest, start: usize, length: usize, power: usize) -> Longest
     requires { ⌜ best .count + power < 18446744073709551616 ⌝ }
     ensures { λ r. ⌜ r ≡ betterOf best start length power ⌝ }
 {
@@ -37,25 +37,43 @@ fn better(best: Longest, start: usize, length: usize, power: usize) -> Longest
     }
 }
 
-pub fn measure(s: &[u8]) -> Longest
-    ensures { λ r. ⌜ r ≡ longestOf (now (s .entry)) ⌝ }
+// How many of the longest words stand in the first group that has them, when a group joins what was seen before it.
+pub fn first_run(run: usize, longest: usize, length: usize, power: usize) -> usize
+    ensures { λ r. ⌜ r ≡ runOf run longest length power ⌝ }
+{
+    if longest < length {
+        return power;
+    }
+    run
+}
+
+// The longest Lyndon substrings, and how many of them stand in the first group that has them.
+pub struct LongestRun {
+    pub found: Longest,
+    pub run: usize,
+}
+
+pub fn measure(s: &[u8]) -> LongestRun
+    ensures { λ r. ⌜ Measures (now (s .entry)) (r .found) (r .run) ⌝ }
 {
     let mut best = Longest {
         start: 0,
         length: 0,
         count: 0,
     };
+    let mut run = 0;
     let mut i = 0;
     while i < s.len() {
         let g = next_group(s, i);
+        run = first_run(run, best.length, g.length, g.power);
         best = better(best, i, g.length, g.power);
         i += g.power * g.length;
     }
-    best
+    LongestRun { found: best, run }
 }
 
 // Writes the starts of a group's factors from place `at` of the row on, and answers the place after them.
-fn write_run(row: &mut [u16], at: usize, start: usize, size: usize, power: usize) -> usize
+pub fn write_run(row: &mut [u16], at: usize, start: usize, size: usize, power: usize) -> usize
     requires { ⌜ (at + power ≤ length (now row)) × (start + power * size ≤ 65535) ⌝ }
     ensures { λ r. ⌜ (r ≡ at + power) × (now (row .exit) ≡ writtenAt at (runFrom start size power) (now (row .entry))) ⌝ }
 {
@@ -69,18 +87,31 @@ fn write_run(row: &mut [u16], at: usize, start: usize, size: usize, power: usize
     at + power
 }
 
-// Writes the starts of the longest Lyndon substrings, whose length is given.
-pub fn write_starts(s: &[u8], size: usize, row: &mut [u16])
-    requires { ⌜ (length (now s) ≤ 65535) × (size ≡ longest (now s)) × (length (longestStarts (now s)) ≤ length (now row)) ⌝ }
-    ensures { λ _. ⌜ now (row .exit) ≡ written (longestStarts (now (s .entry))) (now (row .entry)) ⌝ }
+// Writes the starts of the factors of one length that stand from a place on, from place `at` of the row on, and answers the place after them.
+pub fn write_starts(s: &[u8], from: usize, size: usize, row: &mut [u16], at: usize) -> usize
+    requires { ⌜ (length (now s) ≤ 65535) × (from ≤ length (now s)) × (at + length (startsOf size (suffixGroups (now s) from)) ≤ length (now row)) ⌝ }
+    ensures { λ r. ⌜ (r ≡ at + length (startsOf size (suffixGroups (now (s .entry)) from))) × (now (row .exit) ≡ writtenAt at (startsOf size (suffixGroups (now (s .entry)) from)) (now (row .entry))) ⌝ }
 {
-    let mut at = 0;
-    let mut i = 0;
+    let mut next = at;
+    let mut i = from;
     while i < s.len() {
         let g = next_group(s, i);
         if g.length == size {
-            at = write_run(row, at, i, g.length, g.power);
+            next = write_run(row, next, i, g.length, g.power);
         }
         i += g.power * g.length;
+    }
+    next
+}
+
+// Writes the starts of the longest Lyndon substrings, which were measured: where they are one run, the pattern is not scanned again.
+pub fn write_longest(s: &[u8], found: Longest, run: usize, row: &mut [u16])
+    requires { ⌜ (length (now s) ≤ 65535) × Measures (now s) found run × (found .count ≤ length (now row)) ⌝ }
+    ensures { λ _. ⌜ now (row .exit) ≡ written (longestStarts (now (s .entry))) (now (row .entry)) ⌝ }
+{
+    if run == found.count {
+        write_run(row, 0, found.start, found.length, run);
+    } else {
+        write_starts(s, 0, found.length, row, 0);
     }
 }

@@ -2,7 +2,7 @@
 // is `lyndon_words`, for factors of a part `lyndon_parts`.
 // Each call tests its refusals in the order that its comment names and then calls the crate that does the work; none of them requires anything.
 use factoring::count_groups;
-use factoring::write_groups;
+use factoring::fill_groups;
 use prefix_table::make_last_factors;
 use reach_table::make_lyndon_array;
 use realisation::nests;
@@ -20,11 +20,14 @@ pub fn factor(pattern: &[u8], groups: &mut [u16]) -> Filled
     if MAX_PATTERN < pattern.len() {
         return refused(1);
     }
-    let count = count_groups(pattern, 0);
-    if groups.len() / 3 < count {
-        return refused(8);
+    if groups.len() / 3 < pattern.len() {
+        // there are no more groups than bytes: they are counted first only in a row too short for so many
+        let count = count_groups(pattern, 0);
+        if groups.len() / 3 < count {
+            return refused(8);
+        }
     }
-    write_groups(pattern, 0, groups);
+    let count = fill_groups(pattern, 0, groups);
     Filled { refusal: 0, count }
 }
 

@@ -13,10 +13,13 @@ pub fn write_listing(pattern: &[u8], text: &mut [u8]) -> Filled
     if MAX_PATTERN < pattern.len() {
         return refused(1);
     }
-    let count = listing_length(pattern);
-    if text.len() < count {
-        return refused(8);
+    if text.len() < 32 + 20 * pattern.len() {
+        // no listing of so many bytes is longer: it is measured first only in a buffer too short for that
+        let count = listing_length(pattern);
+        if text.len() < count {
+            return refused(8);
+        }
     }
-    write_text(pattern, text);
+    let count = write_text(pattern, text);
     Filled { refusal: 0, count }
 }

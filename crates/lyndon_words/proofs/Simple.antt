@@ -7,8 +7,8 @@ use mathlib.Core.Path.{_≡_, sym, ap, _∙_}
 use Prim.Native.Nat.{ℕ, zero, suc, _+_, _-_, _*_, _≤_, _<_}
 use native.Mathlib.Omega.{arith}
 use lib.Dec.{eqb}
-use lib.ListN.{length, take, drop, replicate, length-append}
-use lib.Seq.{take-all, take-at, take-length, take-append-seam, length-take-le}
+use lib.ListN.{length, take, drop, replicate}
+use lib.Seq.{take-all, take-length, length-take-le}
 use borrow.Author.Tests.{eq-eqb, ne-eqb, lt-ltb, le-ltb}
 use Rattle.refusals.proofs.First.{First, none, holds, passes, first-is, too-long, not-long, too-short, not-short}
 use Rattle.refusals.proofs.Outcome.{Refused, fills-refused, fills-accepted}
@@ -170,17 +170,6 @@ module _ (s : List ℕ) where
           start = q ∙ ap (λ n. unlessRefused n (leastRotation s) 0) e;
           unique = λ z some. unique-least s k .1 (some, sym single, q);
         }
-
--- the pattern stands twice in the buffer's front
-module _ (s buffer : List ℕ) (last : List ℕ) (w : last ≡ written (s ++ s) buffer) where
-  abbrev twice : List ℕ
-  twice = take (2 * length s) last
-
-  pub twice-is : twice ≡ s ++ s
-  twice-is = rw w (take-at (s ++ s) (drop (length (s ++ s)) buffer) (2 * length s) (length-append s s ∙ omega arith))
-
-  pub twice-front : take (length s) twice ≡ s
-  twice-front = rw twice-is (take-append-seam s s)
 
 -- lyndon_tree
 module _ (w row : List ℕ) (r : Filled) where

@@ -1,12 +1,11 @@
 // The public library on one pattern: longest words, whether a string is a Lyndon word, least rotation, tree. Factors and tables are `lyndon`.
 // Each call answers the first of its refusals, in number order, and leaves the work to the crates below; none of them requires anything.
 use longest::measure;
-use longest::write_starts;
+use longest::write_longest;
 use refusals::Filled;
 use refusals::MAX_PATTERN;
 use refusals::MAX_TREE;
 use refusals::refused;
-use rotation::double;
 use rotation::least_start;
 use scan::next_group;
 use tree::write_nodes;
@@ -46,7 +45,8 @@ pub fn longest_words(pattern: &[u8], starts: &mut [u16]) -> Starts
             count: 0,
         };
     }
-    let found = measure(pattern);
+    let m = measure(pattern);
+    let found = m.found;
     let length = found.length;
     let count = found.count;
     if starts.len() < count {
@@ -56,7 +56,7 @@ pub fn longest_words(pattern: &[u8], starts: &mut [u16]) -> Starts
             count: 0,
         };
     }
-    write_starts(pattern, length, starts);
+    write_longest(pattern, found, m.run, starts);
     Starts {
         refusal: 0,
         length,
@@ -74,7 +74,8 @@ pub fn longest_word_place(pattern: &[u8]) -> WordPlace
             length: 0,
         };
     }
-    let found = measure(pattern);
+    let m = measure(pattern);
+    let found = m.found;
     let start = found.start;
     let length = found.length;
     WordPlace { start, length }
@@ -124,10 +125,7 @@ pub fn least_rotation(pattern: &[u8]) -> Position
             start: 0,
         };
     }
-    let mut twice = [0u8; 2 * MAX_PATTERN];
-    double(pattern, &mut twice);
-    let end = 2 * n;
-    let found = least_start(&twice[..end], n);
+    let found = least_start(pattern);
     if found.repeated {
         return Position {
             refusal: 10,

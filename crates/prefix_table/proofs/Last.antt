@@ -7,18 +7,15 @@ use native.Mathlib.Nat.{div-add-mod', mod-lt}
 use native.Mathlib.Omega.{arith}
 use lib.ListN.{length, set, getD, length-set}
 use Rattle.words.specs.Demand.{FactorStart}
-use Rattle.words.specs.Tables.{lastFactor, lastFactors}
+use Rattle.words.specs.Tables.{lastFactors}
 use Rattle.words.proofs.Bounded.{le-cases}
 use Rattle.words.proofs.Scan.{Scan, Stops, scan-start}
 use Rattle.words.proofs.Tables.{Front, last-first, last-up, last-same, front-words, last-factors-entry, last-factors-length}
 use Rattle.scan.proofs.Next.{turn-same, turn-up}
-use Rattle.rows.proofs.Fill.{Right, right-one, right-join, Filled, filled-none, filled-up, Lists}
+use Rattle.rows.proofs.Fill.{Right, right-one, right-join, Filled, filled-start, filled-none, filled-up, Lists}
 use Rattle.prefix_table.specs.Entries.{Next, MadeFrom, TestedFrom}
+use Rattle.prefix_table.specs.State.{lastTo, Making, Testing}
 use Rattle.prefix_table.proofs.Start.{start-front, start-below, front-factor}
-
--- entry k of the table
-abbrev pub lastTo : List ℕ → ℕ → ℕ
-lastTo s k = lastFactor s (k + 1)
 
 pub last-table : (s : List ℕ) → Lists (lastFactors s) (lastTo s) (length s)
 last-table s = record { size = last-factors-length s; entry = last-factors-entry s }
@@ -51,12 +48,7 @@ module _ {s : List ℕ} {i : ℕ} (q : FactorStart s i) where
     same-entry row g h =
         g (j - p) (omega arith) (omega arith) ∙ sym (last-same (start-front q) c (j - p) (omega arith) l (sym h))
 
--- the table as it is made, where the row was d
-pub record Making (s d row : List ℕ) (i j p : ℕ) : Type 0 where
-  pub scan : Scan s i j p
-  pub filled : Filled (lastTo s) (length s) d row i j
-  pub room : length s ≤ length d
-
+-- the table as it is made
 module _ {s : List ℕ} {i : ℕ} (q : FactorStart s i) where
   first-filled : (d : List ℕ) → length s ≤ length d → Filled (lastTo s) (length s) d (set d i 1) i (i + 1)
   first-filled d room = filled-up (filled-none (lastTo s) (length s) d i) room i 1 (first-entry q) (start-below q) (omega arith) refl
@@ -65,7 +57,7 @@ module _ {s : List ℕ} {i : ℕ} (q : FactorStart s i) where
   making-start d room =
       record {
         scan = scan-start s i (start-below q);
-        filled = record { size = refl; inside = first-filled d room .inside; before = λ k a. refl; past = λ k a. refl };
+        filled = filled-start (lastTo s) (length s) (first-filled d room .inside);
         room = omega (arith, length-set d i 1);
       }
 
@@ -98,11 +90,7 @@ module _ {s : List ℕ} {i : ℕ} (q : FactorStart s i) where
         past = λ k a. m .filled .past k a ∙ f .past k a;
       }
 
--- the table as it is tested
-pub record Testing (s row : List ℕ) (i j p : ℕ) : Type 0 where
-  pub scan : Scan s i j p
-  pub right : Right (lastTo s) row i j
-
+-- the table as it is tested: an entry that is wrong
 wrong-at : (s row : List ℕ) (i k : ℕ) → k < length s → (getD row k 0 ≡ lastTo s k → ⊥) → TestedFrom s row i i
 wrong-at s row i k l h =
     record { wrong = λ e. record { place = k; within = l; differs = h }; right = λ h. absurd (h refl) }
@@ -116,7 +104,7 @@ module _ {s : List ℕ} {i : ℕ} (q : FactorStart s i) (row : List ℕ) where
       record { scan = scan-start s i (start-below q); right = right-one (lastTo s) row i (i + 1) refl (h ∙ first-entry q) }
 
   module _ {j p : ℕ} (t : Testing s row i j p) (l : j < length s) where
-    one-more : getD row j 0 ≡ lastTo s j → Right (lastTo s) row i (j + 1)
+    pub one-more : getD row j 0 ≡ lastTo s j → Right (lastTo s) row i (j + 1)
     one-more e = right-join (lastTo s) row i j (j + 1) (t .right) (right-one (lastTo s) row j (j + 1) refl e)
 
     module _ (h : getD s (j - p) 0 < getD s j 0) where

@@ -1,3 +1,4 @@
 pub mod Start
 pub mod Last
+pub mod Blocks
 pub mod Pass

@@ -11,7 +11,7 @@ use Rattle.words.proofs.Tables.{front-start}
 use Rattle.rows.proofs.Fill.{Filled}
 use Rattle.prefix_table.specs.Entries.{Next, MadeFrom}
 use Rattle.prefix_table.proofs.Start.{front-factor}
-use Rattle.prefix_table.proofs.Last.{lastTo}
+use Rattle.prefix_table.specs.State.{lastTo}
 
 -- i is the start of a factor or the end
 pub record Reached (s : List ℕ) (i : ℕ) : Type 0 where

@@ -1,41 +1,224 @@
 // The reach table of a pattern, which is its Lyndon array, made into a row and tested against a row of any content, in place and from the right.
+// Words are compared plainly while that is cheap, and else with a memo, so that no pattern takes quadratic time.
 // That a row is long enough is the caller's concern.
-use scan::precedes;
+use memo::best;
+use memo::entry;
+use memo::keep;
+use memo::recall;
+use scan::agree_bytes;
+use scan::shorter;
 ghost use mathlib.Core.Path.{_≡_};
-ghost use Prim.Native.Nat.{ℕ, _<_, _≤_};
-ghost use lib.ListN.{length, take, getD};
+ghost use Prim.Native.Nat.{_+_, _<_, _≤_};
+ghost use lib.ListN.{length, take};
+ghost use Rattle.rows.specs.Filled.{Filled};
 ghost use Rattle.rows.specs.Row.{written};
 ghost use Rattle.words.specs.Order.{same};
 ghost use Rattle.words.specs.Tables.{longestAt, lyndonArray};
+ghost use Rattle.memo.specs.Memo.{Alike, Memo};
+ghost use Rattle.reach_table.specs.Reached.{EntriesFrom, Beside, Reached, TestedTo};
 
-// The length of the longest Lyndon substring at i, from the entries of the table behind i.
-// Merging by comparison: linear on most patterns, quadratic on a^m b a^m b.
-fn longest_at(s: &[u8], table: &[u16], i: usize) -> usize
-    requires { ⌜ (i < length (now s)) × (length (now s) ≤ length (now table)) × ((k : ℕ) → i < k → k < length (now s) → getD (now table) k 0 ≡ longestAt (now s) k) ⌝ }
-    ensures { λ r. ⌜ r ≡ longestAt (now (s .entry)) i ⌝ }
+// How far a word agrees with the next one, and whether it is smaller.
+struct Step {
+    e: usize,
+    up: bool,
+}
+
+// The word from i up to j beside the next one, of y bytes; the first `known` bytes agree. Mostly the first bytes tell.
+fn beside(s: &[u8], i: usize, j: usize, y: usize, known: usize) -> Step
+    requires { ⌜ (i < j) × (0 < y) × (j + y ≤ length (now s)) × Alike (now s) i j known ⌝ }
+    ensures { λ r. ⌜ Beside (now (s .entry)) i j y (r .e) (r .up) ⌝ }
 {
-    let n = s.len();
-    let mut m = i + 1;
-    while m < n {
-        let end = m + table[m] as usize;
-        if !precedes(&s[i..m], &s[m..end]) {
-            return m - i;
+    if known == 0 {
+        let c = s[i];
+        let d = s[j];
+        if c != d {
+            return Step { e: 0, up: c < d };
         }
-        m = end;
     }
-    m - i
+    let len = shorter(j - i, y);
+    let e = agree_bytes(s, i, s, j, shorter(known, len), len);
+    if e < len {
+        let x = s[i + e];
+        let z = s[j + e];
+        return Step { e, up: x < z };
+    }
+    Step { e, up: len < y }
+}
+
+// The entry of a place, and how many bytes agreed where its word ended.
+struct Merged {
+    length: usize,
+    last: usize,
+}
+
+// The length of the longest Lyndon substring at i, from the entries of the table behind i, by comparison alone.
+fn merge_at(s: &[u8], table: &[u16], i: usize) -> Merged
+    requires { ⌜ (i < length (now s)) × EntriesFrom (now s) (now table) (i + 1) ⌝ }
+    ensures { λ r. ⌜ r .length ≡ longestAt (now (s .entry)) i ⌝ }
+{
+    let mut j = i + 1;
+    while j < s.len() {
+        let y = entry(table, j);
+        let step = beside(s, i, j, y, 0);
+        let e = step.e;
+        if !step.up {
+            return Merged {
+                length: j - i,
+                last: e,
+            };
+        }
+        j += y;
+    }
+    Merged {
+        length: j - i,
+        last: 0,
+    }
+}
+
+// The same with a memo: what is known of the last word taken in, which starts at i + d, tells how far i agrees with the next.
+fn longest_at(s: &[u8], table: &[u16], i: usize, memo: &mut [u16]) -> usize
+    requires { ⌜ (i < length (now s)) × EntriesFrom (now s) (now table) (i + 1) × Memo (now s) (now memo) ⌝ }
+    ensures { λ r. ⌜ Reached (now (s .entry)) i (now (memo .exit)) r ⌝ }
+{
+    let mut j = i + 1;
+    let mut d = 0;
+    let mut edge = 0;
+    let mut shared = 0;
+    while j < s.len() {
+        let y = entry(table, j);
+        let next = beside(s, i, j, y, shorter(edge, shared));
+        let e = next.e;
+        if !next.up {
+            keep(s, memo, i, e, d, best(shared, edge, e));
+            return j - i;
+        }
+        d = j - i;
+        let k = recall(s, memo, i, d, e);
+        edge = k.edge;
+        shared = k.shared;
+        j += y;
+    }
+    j - i
+}
+
+// What plain comparison may cost, in sixteens of bytes that agreed where a word ended: about as much as clearing the memo and a pass.
+fn allowance(s: &[u8]) -> usize {
+    16 + s.len() / 16
+}
+
+// Makes entries by comparison alone, from the right, for as long as that is cheap: the place from which on they are made.
+fn make_plain(s: &[u8], table: &mut [u16]) -> usize
+    requires { ⌜ (length (now s) ≤ 65535) × (length (now s) ≤ length (now table)) ⌝ }
+    ensures { λ r. ⌜ (r ≤ length (now (s .entry))) × Filled (longestAt (now (s .entry))) (length (now (s .entry))) (now (table .entry)) (now (table .exit)) r (length (now (s .entry))) ⌝ }
+{
+    let mut made = s.len();
+    let mut budget = allowance(s);
+    while 0 < made {
+        made -= 1;
+        let m = merge_at(s, table, made);
+        let l = m.length;
+        let cost = m.last / 16;
+        table[made] = l as u16;
+        if budget < cost {
+            return made;
+        }
+        budget -= cost;
+    }
+    made
+}
+
+// Makes the entries before `from`, with a true memo.
+fn make_by(s: &[u8], table: &mut [u16], from: usize, memo: &mut [u16])
+    requires { ⌜ (length (now s) ≤ 65535) × (from ≤ length (now s)) × EntriesFrom (now s) (now table) from × Memo (now s) (now memo) ⌝ }
+    ensures { λ _. ⌜ Filled (longestAt (now (s .entry))) (length (now (s .entry))) (now (table .entry)) (now (table .exit)) 0 (length (now (s .entry))) ⌝ }
+{
+    let mut i = from;
+    while 0 < i {
+        i -= 1;
+        let l = longest_at(s, table, i, memo);
+        table[i] = l as u16;
+    }
+}
+
+// Makes the entries before `from`, where those from there on are right.
+fn make_rest(s: &[u8], table: &mut [u16], from: usize)
+    requires { ⌜ (length (now s) ≤ 65535) × (from ≤ length (now s)) × EntriesFrom (now s) (now table) from ⌝ }
+    ensures { λ _. ⌜ Filled (longestAt (now (s .entry))) (length (now (s .entry))) (now (table .entry)) (now (table .exit)) 0 (length (now (s .entry))) ⌝ }
+{
+    let mut memo = [0u16; 1024];
+    make_by(s, table, from, &mut memo);
 }
 
 pub fn make_lyndon_array(s: &[u8], table: &mut [u16])
     requires { ⌜ (length (now s) ≤ 65535) × (length (now s) ≤ length (now table)) ⌝ }
     ensures { λ _. ⌜ now (table .exit) ≡ written (lyndonArray (now (s .entry))) (now (table .entry)) ⌝ }
 {
-    let mut i = s.len();
-    while 0 < i {
-        i -= 1;
-        let l = longest_at(s, table, i);
-        table[i] = l as u16;
+    let left = make_plain(s, table);
+    if 0 < left {
+        make_rest(s, table, left);
     }
+}
+
+// How far entries were tested, and whether the one there is wrong.
+struct Tested {
+    left: usize,
+    wrong: bool,
+}
+
+// Tests entries by comparison alone, from the right, for as long as that is cheap.
+fn test_plain(s: &[u8], table: &[u16]) -> Tested
+    requires { ⌜ length (now s) ≤ length (now table) ⌝ }
+    ensures { λ r. ⌜ TestedTo (now (s .entry)) (now (table .entry)) (r .left) (r .wrong) ⌝ }
+{
+    let mut tested = s.len();
+    let mut budget = allowance(s);
+    while 0 < tested {
+        tested -= 1;
+        let m = merge_at(s, table, tested);
+        let cost = m.last / 16;
+        if entry(table, tested) != m.length {
+            return Tested {
+                left: tested,
+                wrong: true,
+            };
+        }
+        if budget < cost {
+            return Tested {
+                left: tested,
+                wrong: false,
+            };
+        }
+        budget -= cost;
+    }
+    Tested {
+        left: tested,
+        wrong: false,
+    }
+}
+
+// Whether the entries before `from` are right, with a true memo, where those from there on are.
+fn test_by(s: &[u8], table: &[u16], from: usize, memo: &mut [u16]) -> bool
+    requires { ⌜ (from ≤ length (now s)) × EntriesFrom (now s) (now table) from × Memo (now s) (now memo) ⌝ }
+    ensures { λ r. ⌜ r ≡ same (take (length (now (s .entry))) (now (table .entry))) (lyndonArray (now (s .entry))) ⌝ }
+{
+    let mut left = from;
+    while 0 < left {
+        left -= 1;
+        let l = longest_at(s, table, left, memo);
+        if entry(table, left) != l {
+            return false;
+        }
+    }
+    true
+}
+
+// The same, with a new memo.
+fn test_rest(s: &[u8], table: &[u16], from: usize) -> bool
+    requires { ⌜ (from ≤ length (now s)) × EntriesFrom (now s) (now table) from ⌝ }
+    ensures { λ r. ⌜ r ≡ same (take (length (now (s .entry))) (now (table .entry))) (lyndonArray (now (s .entry))) ⌝ }
+{
+    let mut memo = [0u16; 1024];
+    test_by(s, table, from, &mut memo)
 }
 
 // Whether the first entries of the table are the pattern's Lyndon array.
@@ -43,13 +226,12 @@ pub fn is_lyndon_array(s: &[u8], table: &[u16]) -> bool
     requires { ⌜ length (now s) ≤ length (now table) ⌝ }
     ensures { λ r. ⌜ r ≡ same (take (length (now (s .entry))) (now (table .entry))) (lyndonArray (now (s .entry))) ⌝ }
 {
-    let mut left = s.len();
-    while 0 < left {
-        left -= 1;
-        let l = longest_at(s, table, left);
-        if table[left] as usize != l {
-            return false;
-        }
+    let t = test_plain(s, table);
+    if t.wrong {
+        return false;
     }
-    true
+    if t.left == 0 {
+        return true;
+    }
+    test_rest(s, table, t.left)
 }

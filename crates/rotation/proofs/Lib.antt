@@ -1,2 +1,2 @@
-pub mod Twice
+pub mod Follow
 pub mod Start

@@ -1,12 +1,14 @@
 // The smallest start of a least rotation, and whether the pattern is a shorter word repeated, read off the groups of the doubled pattern.
-// The buffer for the doubling is the caller's.
+// The doubled pattern is not written out: a group that may go on round the end is compared there with the pattern's front.
+use scan::compare;
 use scan::next_group;
-ghost use mathlib.Core.List.{_++_};
+use scan::shared_length;
 ghost use mathlib.Core.Path.{_≡_};
-ghost use Prim.Native.Nat.{_*_, _≤_};
-ghost use lib.ListN.{length, take};
-ghost use Rattle.rows.specs.Row.{written};
-ghost use Rattle.words.specs.Rotation.{leastRotation, repeated};
+ghost use Prim.Native.Nat.{_+_, _*_};
+ghost use lib.ListN.{take, drop};
+ghost use Rattle.scan.specs.Group.{NextGroup};
+ghost use Rattle.words.specs.Order.{smaller};
+ghost use Rattle.words.specs.Rotation.{rotation, leastRotation, repeated};
 
 // What the doubled pattern shows of the pattern.
 pub struct Least {
@@ -14,35 +16,44 @@ pub struct Least {
     pub repeated: bool,
 }
 
-// Writes the pattern twice to the front of the buffer.
-pub fn double(s: &[u8], buffer: &mut [u8])
-    requires { ⌜ 2 * length (now s) ≤ length (now buffer) ⌝ }
-    ensures { λ _. ⌜ now (buffer .exit) ≡ written (now (s .entry) ++ now (s .entry)) (now (buffer .entry)) ⌝ }
+// How the symbols that follow the group at i, round the end of the pattern, compare with its word: 1 where they are smaller, 2 where the word
+// is, 0 where they are the word once more.
+fn compare_round(s: &[u8], i: usize, size: usize, power: usize) -> u8
+    requires { ⌜ NextGroup (now s) i size power ⌝ }
+    ensures { λ r. ⌜ r ≡ smaller (take size (rotation (now (s .entry)) (i + power * size))) (take size (drop i (now (s .entry)))) ⌝ }
 {
-    let n = s.len();
-    let mut k = 0;
-    while k < n {
-        let x = s[k];
-        buffer[k] = x;
-        buffer[n + k] = x;
-        k += 1;
+    let end = i + power * size;
+    let rest = s.len() - end;
+    if size <= rest {
+        return 1;
     }
+    if shared_length(s, end, rest, i, rest) < rest {
+        return 1;
+    }
+    let front = size - rest;
+    let from = i + rest;
+    let to = i + size;
+    let c = compare(&s[..front], &s[from..to]);
+    c.smaller
 }
 
-// The smallest start of a least rotation of the first n symbols of t, which is these symbols twice: the start of the first group that ends
-// at n or after it. They are a shorter word repeated exactly when that group's word has fewer than n symbols.
-pub fn least_start(t: &[u8], n: usize) -> Least
-    requires { ⌜ (n ≤ length (now t)) × (now t ≡ take n (now t) ++ take n (now t)) ⌝ }
-    ensures { λ r. ⌜ (r .start ≡ leastRotation (take n (now (t .entry)))) × (r .repeated ≡ repeated (take n (now (t .entry)))) ⌝ }
+// The smallest start of a least rotation: that of the first group that nothing smaller than its word follows. The pattern is a shorter word
+// repeated exactly when that word is shorter, comes once more, and fills the pattern so.
+pub fn least_start(s: &[u8]) -> Least
+    ensures { λ r. ⌜ (r .start ≡ leastRotation (now (s .entry))) × (r .repeated ≡ repeated (now (s .entry))) ⌝ }
 {
+    let n = s.len();
     let mut i = 0;
     while i < n {
-        let g = next_group(t, i);
-        let end = i + g.power * g.length;
-        if n <= end {
+        let g = next_group(s, i);
+        let round = compare_round(s, i, g.length, g.power);
+        let span = g.power * g.length;
+        let end = i + span;
+        if round != 1 {
+            let outside = n - span;
             return Least {
                 start: i,
-                repeated: g.length < n,
+                repeated: (round == 0) & (outside <= g.length) & (g.length < n),
             };
         }
         i = end;

@@ -11,10 +11,7 @@ use Rattle.words.specs.Order.{same}
 use Rattle.words.proofs.Bounded.{le-or-lt}
 use Rattle.words.proofs.Order.{ThreeN, smallerN, equalN, greaterN, threeN, true-same, false-same}
 use Rattle.rows.specs.Row.{written}
-
--- Entries `from` up to `to` of the row are those of f.
-abbrev pub Right : (ℕ → ℕ) → List ℕ → ℕ → ℕ → Type 0
-Right f row from to = (k : ℕ) → from ≤ k → k < to → getD row k 0 ≡ f k
+pub use Rattle.rows.specs.Filled.{Right, Filled}
 
 module _ (f : ℕ → ℕ) (row : List ℕ) where
   pub right-none : (i : ℕ) → Right f row i i
@@ -32,15 +29,23 @@ module _ (f : ℕ → ℕ) (row : List ℕ) where
       go (inl l) = h k l b
       go (inr l) = g k a l
 
--- The same, where the row was d: entries before them, and those from n on, are as they were.
-pub record Filled (f : ℕ → ℕ) (n : ℕ) (d row : List ℕ) (from to : ℕ) : Type 0 where
-  pub size : length row ≡ length d
-  pub inside : Right f row from to
-  pub before : (k : ℕ) → k < from → getD row k 0 ≡ getD d k 0
-  pub past : (k : ℕ) → n ≤ k → getD row k 0 ≡ getD d k 0
+-- a row whose entries are right as it is
+pub filled-start : (f : ℕ → ℕ) (n : ℕ) {d : List ℕ} {from to : ℕ} → Right f d from to → Filled f n d d from to
+filled-start f n r = record { size = refl; inside = r; before = λ k a. refl; past = λ k a. refl }
 
 pub filled-none : (f : ℕ → ℕ) (n : ℕ) (d : List ℕ) (i : ℕ) → Filled f n d d i i
-filled-none f n d i = record { size = refl; inside = right-none f d i; before = λ k a. refl; past = λ k a. refl }
+filled-none f n d i = filled-start f n (right-none f d i)
+
+-- a row that was filled from a place on, and then from an earlier one
+pub filled-on : {f : ℕ → ℕ} {n : ℕ} {d e row : List ℕ} {from from′ to : ℕ} → Filled f n d e from to → Filled f n e row from′ to → from′ ≤ from
+    → Filled f n d row from′ to
+filled-on g g′ h =
+    record {
+      size = g′ .size ∙ g .size;
+      inside = g′ .inside;
+      before = λ k a. g′ .before k a ∙ g .before k (omega arith);
+      past = λ k a. g′ .past k a ∙ g .past k a;
+    }
 
 -- an entry after a write at j
 pub set-entry : (row : List ℕ) (j x k v : ℕ) → j < length row → (k ≡ j → x ≡ v) → ((k ≡ j → ⊥) → getD row k 0 ≡ v)

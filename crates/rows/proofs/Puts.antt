@@ -1,5 +1,5 @@
 -- How text goes into a buffer from a place on: part by part, byte by byte, and the last byte first.
-use mathlib.Core.List.{List, [], _∷_, _++_, append-assoc, append-nil}
+use mathlib.Core.List.{List, [], _∷_, _++_, append-assoc}
 use mathlib.Core.Path.{_≡_, refl, sym, ap, _∙_}
 use Prim.Native.Nat.{ℕ, suc, _+_, _≤_, _<_}
 use native.Mathlib.Numerals.{add-one}
@@ -7,7 +7,7 @@ use native.Mathlib.Omega.{arith}
 use lib.ListN.{length, take, drop, getD, set, length-append, length-take, length-drop, take-append-drop, drop-of-length-le}
 use lib.Seq.{drop-cons, drop-drop, drop-at, length-take-le, set-split, take-set-le}
 use Rattle.rows.specs.Row.{writtenAt}
-use Rattle.rows.proofs.Wrote.{Wrote, wrote-one, wrote-room, wrote-all, set-written}
+use Rattle.rows.proofs.Wrote.{Wrote, wrote-one, wrote-room, wrote-all, wrote-count, set-written}
 use Rattle.rows.proofs.Written.{written-append}
 use Rattle.rows.specs.Written.{Room, Puts}
 
@@ -43,7 +43,7 @@ pub putting-all : {out d b : List ℕ} {i n : ℕ} → i ≤ length d → Puttin
 putting-all {out} {d} {b} {i} {n} h w =
     let m : length (take i d ++ out) ≡ i + length out = length-append (take i d) out ∙ ap (λ k. k + length out) (length-take-le i d h) in
     record {
-      next = omega (arith, w .size, ap length (w .parts ∙ append-nil (w .done)));
+      next = wrote-count w ∙ m;
       leaves =
           wrote-all w ∙ append-assoc (take i d) out (drop (length (take i d ++ out)) d)
           ∙ ap (λ u. take i d ++ (out ++ u)) (ap (λ k. drop k d) m ∙ sym (drop-drop (length out) i d));

@@ -3,7 +3,7 @@ use mathlib.Core.List.{List, [], _∷_, _++_, append-assoc}
 use mathlib.Core.Path.{_≡_, sym, ap, _∙_}
 use Prim.Native.Nat.{ℕ, _+_, _≤_, _<_}
 use native.Mathlib.Omega.{arith}
-use lib.ListN.{length, take, drop, set, length-append, length-set}
+use lib.ListN.{length, take, drop, set, length-append, length-drop, length-set}
 use lib.Seq.{drop-drop, drop-at, take-at, length-take-le}
 use Rattle.rows.specs.Row.{writtenAt}
 use Rattle.rows.proofs.Wrote.{set-written}
@@ -34,3 +34,9 @@ written-two row at x y h =
     set-written (set row at x) (at + 1) y (omega (arith, length-set row at x))
     ∙ ap (writtenAt (at + 1) (y ∷ [])) (set-written row at x (omega arith))
     ∙ written-append at (x ∷ []) (y ∷ []) row (omega arith)
+
+pub length-written-at : (at : ℕ) (out row : List ℕ) → at + length out ≤ length row → length (writtenAt at out row) ≡ length row
+length-written-at at out row h =
+    let a = length-append (take at row) (out ++ drop (length out) (drop at row)) in
+    let b = length-append out (drop (length out) (drop at row)) in
+    omega (arith, a, b, length-take-le at row (omega arith), length-drop (length out) (drop at row), length-drop at row)

@@ -4,8 +4,8 @@ use mathlib.Core.Path.{_≡_, refl, sym, ap, _∙_}
 use Prim.Native.Nat.{ℕ, _+_, _≤_, _<_}
 use native.Mathlib.Numerals.{add-one}
 use native.Mathlib.Omega.{arith}
-use lib.ListN.{length, take, drop, set, length-append, length-drop}
-use lib.Seq.{drop-drop, drop-at, take-at, set-split}
+use lib.ListN.{length, take, drop, set, length-append, length-drop, take-append-drop}
+use lib.Seq.{drop-drop, drop-at, take-at, set-split, length-take-le}
 use Rattle.rows.specs.Row.{written, writtenAt}
 
 -- the row after the first n entries of `out` were written over d; `rest` are the others
@@ -32,6 +32,9 @@ wrote-all {out} {d} {row} {n} w =
     let e : out ≡ w .done = w .parts ∙ append-nil (w .done) in
     w .holds ∙ rw (e, w .size)
 
+pub wrote-count : {out d row : List ℕ} {n : ℕ} → Wrote out d row n [] → n ≡ length out
+wrote-count w = omega (arith, w .size, ap length (w .parts ∙ append-nil (w .done)))
+
 -- a part that was written at place n of the row
 pub wrote-part : {out d row rest : List ℕ} {n : ℕ} (xs : List ℕ) → Wrote out d row n (xs ++ rest)
     → Wrote out d (writtenAt n xs row) (n + length xs) rest
@@ -49,6 +52,28 @@ wrote-part {out} {d} {row} {rest} {n} xs w =
         let e : take n row ≡ w .done = ap (take n) (w .holds) ∙ take-at (w .done) (drop n d) n (w .size) in
         let f : drop n row ≡ drop n d = ap (drop n) (w .holds) ∙ drop-at (w .done) (drop n d) n (w .size) in
         rw (e, f, drop-drop (length xs) n d)
+
+-- a result that is written from place `at` on: what stands before it counts as written
+pub wrote-from : (at : ℕ) (out d : List ℕ) → at + length out ≤ length d → Wrote (take at d ++ out) d d at out
+wrote-from at out d h =
+    let n = length-take-le at d (omega arith) in
+    record {
+      done = take at d;
+      parts = refl;
+      size = n;
+      room = omega (arith, n, length-append (take at d) out);
+      holds = sym (take-append-drop at d);
+    }
+
+pub wrote-to : (at : ℕ) (out d : List ℕ) {row : List ℕ} {n : ℕ} → at + length out ≤ length d → Wrote (take at d ++ out) d row n []
+    → (n ≡ at + length out) × (row ≡ writtenAt at out d)
+wrote-to at out d {row} {n} h w =
+    let m = length-take-le at d (omega arith) in
+    let l : length (take at d ++ out) ≡ at + length out = omega (arith, m, length-append (take at d) out) in (
+      omega (arith, l, w .size, ap length (w .parts), length-append (w .done) []),
+      wrote-all w ∙ append-assoc (take at d) out (drop (length (take at d ++ out)) d)
+          ∙ ap (λ u. take at d ++ (out ++ u)) (ap (λ k. drop k d) l ∙ sym (drop-drop (length out) at d)),
+    )
 
 pub set-written : (row : List ℕ) (n x : ℕ) → n < length row → set row n x ≡ writtenAt n (x ∷ []) row
 set-written row n x h = set-split row n x h ∙ ap (λ t. take n row ++ x ∷ t) (sym (drop-drop 1 n row ∙ ap (λ k. drop k row) (add-one n)))

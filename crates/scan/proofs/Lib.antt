@@ -1,3 +1,6 @@
+pub mod Alike
 pub mod Decided
 pub mod Next
 pub mod Pass
+pub mod Rising
+pub mod Words

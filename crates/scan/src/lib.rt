@@ -1,17 +1,20 @@
 // Comparison of two strings, and Duval's scan: the group of factors that starts at a place of a pattern.
 // The inner loop of everything that lists factors; refusals and rows are left to the crates above.
+pub mod blocks;
+
 ghost use mathlib.Core.Bool.{cond};
 ghost use mathlib.Core.Path.{_≡_};
 ghost use mathlib.Core.Logic.{_⊎_};
 ghost use Prim.Native.Nat.{_<_, _≤_, _+_};
 ghost use lib.Dec.{ltb};
 ghost use lib.ListN.{length, take, drop};
-ghost use Rattle.words.specs.Order.{less, same, shared};
+ghost use Rattle.words.specs.Order.{same, shared};
+ghost use Rattle.scan.specs.Agrees.{Agrees, Begun, Agreed};
 ghost use Rattle.scan.specs.Compared.{compared};
 ghost use Rattle.scan.specs.Group.{NextGroup, GroupFrom};
 
 // The smaller of two lengths.
-fn shorter(m: usize, n: usize) -> usize
+pub fn shorter(m: usize, n: usize) -> usize
     ensures { λ r. ⌜ (r ≤ m) × (r ≤ n) × ((m ≤ r) ⊎ (n ≤ r)) ⌝ }
 {
     if m < n { m } else { n }
@@ -30,18 +33,46 @@ fn smaller_number(m: usize, n: usize) -> u8
     0
 }
 
+// How many of the first `len` bytes from i of a and from j of b agree, byte by byte; the first `from` do.
+pub fn agree_bytes(a: &[u8], i: usize, b: &[u8], j: usize, from: usize, len: usize) -> usize
+    requires { ⌜ Begun (now a) i (now b) j from len ⌝ }
+    ensures { λ r. ⌜ Agreed (now (a .entry)) i (now (b .entry)) j from len r ⌝ }
+{
+    let mut k = from;
+    while k < len {
+        let left = a[i + k];
+        let right = b[j + k];
+        if left != right {
+            return k;
+        }
+        k += 1;
+    }
+    k
+}
+
 // What is told of two strings: their shared length, and which is smaller, 1 the first, 2 the second, 0 where neither is.
 pub struct Compared {
     pub shared: usize,
     pub smaller: u8,
 }
 
-// Compares two strings; the only loop that does.
+// How many of the first `end` bytes of two strings agree, in whole blocks; of a few bytes none, which the byte loop compares as fast.
+fn first_blocks(a: &[u8], b: &[u8], end: usize) -> usize
+    requires { ⌜ (end ≤ length (now a)) × (end ≤ length (now b)) ⌝ }
+    ensures { λ r. ⌜ (r ≤ end) × Agrees (now (a .entry)) 0 (now (b .entry)) 0 r ⌝ }
+{
+    if end < 32 {
+        return 0;
+    }
+    blocks::agree_blocks(&a[..end], 0, &b[..end], 0, end)
+}
+
+// Compares two strings: by blocks, then the bytes behind them.
 pub fn compare(a: &[u8], b: &[u8]) -> Compared
     ensures { λ r. ⌜ r ≡ compared (now (a .entry)) (now (b .entry)) ⌝ }
 {
     let end = shorter(a.len(), b.len());
-    let mut k = 0;
+    let mut k = first_blocks(a, b, end);
     while k < end {
         let left = a[k];
         let right = b[k];
@@ -57,14 +88,6 @@ pub fn compare(a: &[u8], b: &[u8]) -> Compared
         shared: end,
         smaller: smaller_number(a.len(), b.len()),
     }
-}
-
-// Whether a is smaller than b.
-pub fn precedes(a: &[u8], b: &[u8]) -> bool
-    ensures { λ r. ⌜ r ≡ less (now (a .entry)) (now (b .entry)) ⌝ }
-{
-    let c = compare(a, b);
-    c.smaller == 1
 }
 
 // Whether a and b are the same string.
@@ -100,21 +123,30 @@ pub fn next_group(s: &[u8], i: usize) -> Stretch
     requires { ⌜ i < length (now s) ⌝ }
     ensures { λ r. ⌜ NextGroup (now (s .entry)) i (r .length) (r .power) ⌝ }
 {
+    let n = s.len();
     let mut p = 1;
     let mut j = i + 1;
-    while j < s.len() {
-        let x = s[j - p];
-        let y = s[j];
-        if x != y {
-            if y < x {
-                return Stretch {
-                    length: p,
-                    power: (j - i) / p,
-                };
+    let mut gap = 8;
+    while j < n {
+        let stop = j + shorter(gap, n - j);
+        while j < stop {
+            let x = s[j - p];
+            let y = s[j];
+            if x != y {
+                if y < x {
+                    return Stretch {
+                        length: p,
+                        power: (j - i) / p,
+                    };
+                }
+                p = j + 1 - i;
             }
-            p = j + 1 - i;
+            j += 1;
         }
-        j += 1;
+        let m = blocks::leap(s, i, j, p);
+        gap = blocks::next_gap(gap, 64, j < m.j);
+        p = m.p;
+        j = m.j;
     }
     Stretch {
         length: p,

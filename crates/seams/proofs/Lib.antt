@@ -1,1 +1,3 @@
+pub mod Between
+pub mod Passed
 pub mod Meets

@@ -1,17 +1,23 @@
 -- Where the parts of an edited pattern meet, read off the ends and starts of factors around the edit.
+use mathlib.Core.Bool.{cond}
 use mathlib.Core.List.{List}
 use mathlib.Core.Path.{_≡_, refl, sym, ap, _∙_}
-use Prim.Native.Nat.{ℕ, _+_, _-_, _≤_, _<_, min}
+use Prim.Native.Nat.{ℕ, suc, _+_, _-_, _≤_, _<_, min}
 use native.Mathlib.Omega.{arith}
+use lib.Dec.{ltb}
 use lib.ListN.{length}
-use Rattle.cuts.specs.Bounds.{Boundary, EndsBy, StartsBy}
+use Rattle.cuts.specs.Bounds.{EndsBy, StartsBy}
 use Rattle.refusals.specs.Refusals.{maxPattern}
 use Rattle.words.specs.Edit.{edited, place, kept, resume}
 use Rattle.words.specs.Factors.{join, factors, startAt}
 use Rattle.words.proofs.Edit.{length-edited, kept-least, kept-same, resumeFactor, resume-is, resume-first}
-use Rattle.words.proofs.EditParts.{end-le, endingBy, ending-is, startingBy, starting-is}
-use Rattle.seams.specs.Seams.{Accepted, planOf}
+use Rattle.words.proofs.Factors.{factors-falling}
+use Rattle.words.proofs.EditParts.{end-le, end-apart, endingBy, ending-is, startingBy, starting-is}
+use Rattle.seams.specs.Seams.{Accepted, planOf, Planned}
+use Rattle.seams.specs.Survey.{Surveyed}
+use Rattle.seams.specs.declared.Overview.{Overview}
 use Rattle.seams.specs.declared.Seams.{Seams}
+use Rattle.seams.proofs.Between.{groups-between}
 
 ends-count : {fs : List (List ℕ)} {q count end : ℕ} → EndsBy fs q count end → endingBy q fs ≡ count
 ends-count {fs} {q} {count} e = ending-is q count fs (e .within) (omega (arith, e .at, e .before)) (e .last)
@@ -36,10 +42,8 @@ module _ {s array : List ℕ} {from to : ℕ} {b t : List ℕ} (a : Accepted s a
   pub edited-short : length t ≤ maxPattern
   edited-short = omega (arith, ap length (a .spliced), a .fits)
 
-  pub first-start-asks : {count end : ℕ} → EndsBy (factors t) from count end
-      → Boundary (factors t) end × (end ≤ from + length b) × (from + length b ≤ length t)
-  first-start-asks {count} e =
-      (record { index = count; within = e .within; at = e .at }, omega (arith, e .before), block-within)
+  pub survey-asks : (from + length b ≤ length t) × (length t ≤ 65535)
+  survey-asks = (block-within, omega (arith, edited-short))
 
   module _ {c e d f p : ℕ} (old : EndsBy (factors s) from c e) (new : EndsBy (factors t) from d f)
       (next : StartsBy (factors t) (from + length b) p) where
@@ -57,16 +61,59 @@ module _ {s array : List ℕ} {from to : ℕ} {b t : List ℕ} (a : Accepted s a
     placed : p ≡ place from to b (resume s from to b)
     placed = sym (resume-first s from to b (a .start) (a .stretch) ∙ start-is)
 
-    pub plan-old : c ≤ d → record { kept = c; end = e; resume = to + (p - (from + length b)); place = p } ≡ planOf s from to b
+    plan-old : c ≤ d → record { kept = c; end = e; resume = to + (p - (from + length b)); place = p } ≡ planOf s from to b
     unfolding planOf
     plan-old h =
         let k : c ≡ kept s from to b = omega (arith, kept-is) in
         seams-same k (sym (old .at) ∙ ap (startAt (factors s)) k) resumed placed
 
-    pub plan-new : d < c → record { kept = d; end = f; resume = to + (p - (from + length b)); place = p } ≡ planOf s from to b
+    plan-new : d < c → record { kept = d; end = f; resume = to + (p - (from + length b)); place = p } ≡ planOf s from to b
     unfolding planOf
     plan-new h =
         let k : d ≡ kept s from to b = omega (arith, kept-is) in
         let same = ap (λ fs. length (join fs)) (kept-same s from to b (a .start) (a .stretch)) in
         let end = sym (new .at) ∙ ap (startAt (factors t)) k ∙ ap (λ u. startAt (factors u) (kept s from to b)) (a .spliced) ∙ sym same in
         seams-same k end resumed placed
+
+    -- where no factor before the edit is lost, the kept ones end where the stored ones do
+    kept-ends : c ≤ d → EndsBy (factors t) e c e
+    kept-ends h =
+        let k : c ≡ kept s from to b = omega (arith, kept-is) in
+        let same = ap (λ fs. length (join fs)) (kept-same s from to b (a .start) (a .stretch)) in
+        let at : startAt (factors t) c ≡ e =
+        ap (λ u. startAt (factors u) c) (a .spliced) ∙ ap (startAt (factors (edited s from to b))) k ∙ sym same ∙ ap (startAt (factors s)) (sym k) ∙ old .at in
+        record {
+          within = omega (arith, new .within);
+          at = at;
+          before = omega arith;
+          last = λ l. omega (arith, at, end-apart c (suc c) (factors t) (factors-falling t) (omega arith) (omega arith));
+        }
+
+  module _ {c e : ℕ} (old : EndsBy (factors s) from c e) {v : Overview} (w : Surveyed t e from (from + length b) v) {n : ℕ} where
+    pub planned-old : c ≤ v .ends .count → n ≡ cond (ltb e (v .place)) (v .stored + 1) 0
+        → Planned s from to b t (record {
+          seams = record { kept = c; end = e; resume = to + (v .place - (from + length b)); place = v .place };
+          groups = n;
+          found = v .found;
+          run = v .run;
+        })
+    planned-old h g =
+        record {
+          seams = plan-old old (w .ends) (w .next) h;
+          groups = g ∙ ap (λ k. cond (ltb e (v .place)) (k + 1) 0) (w .stored) ∙ groups-between t (kept-ends old (w .ends) (w .next) h) (w .next);
+          longest = w .longest;
+        }
+
+    pub planned-new : v .ends .count < c → n ≡ cond (ltb (v .ends .end) (v .place)) (v .fresh + 1) 0
+        → Planned s from to b t (record {
+          seams = record { kept = v .ends .count; end = v .ends .end; resume = to + (v .place - (from + length b)); place = v .place };
+          groups = n;
+          found = v .found;
+          run = v .run;
+        })
+    planned-new h g =
+        record {
+          seams = plan-new old (w .ends) (w .next) h;
+          groups = g ∙ ap (λ k. cond (ltb (v .ends .end) (v .place)) (k + 1) 0) (w .fresh) ∙ groups-between t (w .ends) (w .next);
+          longest = w .longest;
+        }

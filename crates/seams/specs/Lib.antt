@@ -1,1 +1,2 @@
 pub mod Seams
+pub mod Survey

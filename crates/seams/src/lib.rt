@@ -1,10 +1,82 @@
-// Where the three parts of an edited pattern meet: the kept factors, the middle and the resumed factors. The groups of the middle
-// and the rows are left to other crates.
-use cuts::first_start;
-use cuts::scanned_ends;
+// Where the three parts of an edited pattern meet: the kept factors, the middle and the resumed factors, how many groups the middle has, and
+// the longest Lyndon substrings, all of one pass. The groups themselves and the rows are left to other crates.
+use cuts::Ends;
+use cuts::ends_with;
+use cuts::start_with;
 use cuts::stored_ends;
+use longest::Longest;
+use longest::better;
+use longest::first_run;
+use scan::next_group;
+ghost use mathlib.Core.Bool.{cond};
 ghost use mathlib.Core.Path.{_≡_};
-ghost use Rattle.seams.specs.Seams.{Accepted, planOf};
+ghost use Prim.Native.Nat.{_+_, _≤_, _<_};
+ghost use lib.Dec.{ltb};
+ghost use lib.ListN.{length};
+ghost use Rattle.seams.specs.Seams.{Accepted, Planned};
+ghost use Rattle.seams.specs.Survey.{Surveyed, insideOf};
+
+// One more where a place lies between two others.
+fn counted(count: usize, low: usize, high: usize, end: usize) -> usize
+    requires { ⌜ count < 18446744073709551615 ⌝ }
+    ensures { λ r. ⌜ r ≡ count + insideOf low high end ⌝ }
+{
+    if end <= low {
+        return count;
+    }
+    if high <= end {
+        return count;
+    }
+    count + 1
+}
+
+// What one pass tells of an edited pattern: the factors that end by the edit's start, the first start of a factor behind the block, how many groups
+// end between the kept factors or the edit's start and that place, and the longest Lyndon substrings.
+struct Overview {
+    ends: Ends,
+    place: usize,
+    stored: usize,
+    fresh: usize,
+    found: Longest,
+    run: usize,
+}
+
+// The pass: `end` is where the stored factors before the edit end, q where the block does.
+fn survey(t: &[u8], end: usize, from: usize, q: usize) -> Overview
+    requires { ⌜ (q ≤ length (now t)) × (length (now t) ≤ 65535) ⌝ }
+    ensures { λ r. ⌜ Surveyed (now (t .entry)) end from q r ⌝ }
+{
+    let mut ends = Ends { count: 0, end: 0 };
+    let mut place = 0;
+    let mut stored = 0;
+    let mut fresh = 0;
+    let mut found = Longest {
+        start: 0,
+        length: 0,
+        count: 0,
+    };
+    let mut run = 0;
+    let mut i = 0;
+    while i < t.len() {
+        let g = next_group(t, i);
+        let next = i + g.power * g.length;
+        ends = ends_with(ends, from, i, g.length, g.power);
+        place = start_with(place, q, i, g.length, g.power);
+        stored = counted(stored, end, q, next);
+        fresh = counted(fresh, from, q, next);
+        run = first_run(run, found.length, g.length, g.power);
+        found = better(found, i, g.length, g.power);
+        i = next;
+    }
+    Overview {
+        ends,
+        place,
+        stored,
+        fresh,
+        found,
+        run,
+    }
+}
 
 // Kept and the place where the kept factors end; resume and its place in the edited pattern.
 pub struct Seams {
@@ -14,29 +86,57 @@ pub struct Seams {
     pub place: usize,
 }
 
+// The seams, how many groups the middle has, and the longest Lyndon substrings with the run of the first of them.
+pub struct Parts {
+    pub seams: Seams,
+    pub groups: usize,
+    pub found: Longest,
+    pub run: usize,
+}
+
+// How many groups stand between two boundaries, where so many end inside.
+fn groups_between(end: usize, place: usize, inner: usize) -> usize
+    requires { ⌜ inner < 18446744073709551615 ⌝ }
+    ensures { λ r. ⌜ r ≡ cond (ltb end place) (inner + 1) 0 ⌝ }
+{
+    if end < place { inner + 1 } else { 0 }
+}
+
 // Where the parts of the edited pattern t meet; for `edit`.
-pub fn plan(pattern: &[u8], table: &[u16], from: usize, to: usize, block: &[u8], t: &[u8]) -> Seams
+pub fn plan(pattern: &[u8], table: &[u16], from: usize, to: usize, block: &[u8], t: &[u8]) -> Parts
     requires { ⌜ Accepted (now pattern) (now table) from to (now block) (now t) ⌝ }
-    ensures { λ r. ⌜ r ≡ planOf (now (pattern .entry)) from to (now (block .entry)) ⌝ }
+    ensures { λ r. ⌜ Planned (now (pattern .entry)) from to (now (block .entry)) (now (t .entry)) r ⌝ }
 {
     let stored = stored_ends(pattern, table, from);
-    let fresh = scanned_ends(t, from);
     let q = from + block.len();
-    let start = fresh.end;
-    let place = first_start(t, start, q);
+    let seen = survey(t, stored.end, from, q);
+    let ends = seen.ends;
+    let found = seen.found;
+    let run = seen.run;
+    let place = seen.place;
     let resume = to + (place - q);
-    if stored.count <= fresh.count {
-        return Seams {
-            kept: stored.count,
-            end: stored.end,
-            resume,
-            place,
+    if stored.count <= ends.count {
+        return Parts {
+            seams: Seams {
+                kept: stored.count,
+                end: stored.end,
+                resume,
+                place,
+            },
+            groups: groups_between(stored.end, place, seen.stored),
+            found,
+            run,
         };
     }
-    Seams {
-        kept: fresh.count,
-        end: fresh.end,
-        resume,
-        place,
+    Parts {
+        seams: Seams {
+            kept: ends.count,
+            end: ends.end,
+            resume,
+            place,
+        },
+        groups: groups_between(ends.end, place, seen.fresh),
+        found,
+        run,
     }
 }

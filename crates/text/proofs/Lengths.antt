@@ -10,8 +10,7 @@ use Rattle.hex.specs.Hex.{pairOf}
 use Rattle.words.specs.Factors.{join, factors, Group, wordOf}
 use Rattle.words.specs.Tables.{suffixGroups}
 use Rattle.words.proofs.Bounded.{le-or-lt}
-use Rattle.words.proofs.Factors.{Falling, join-append, join-factors, factors-falling, falling-right}
-use Rattle.words.proofs.EditParts.{end-apart, end-all}
+use Rattle.words.proofs.Factors.{Falling, join-append, join-factors, factors-falling, factors-few, falling-right}
 use Rattle.words.proofs.Groups.{group, Packed, none, more, packed}
 use Rattle.words.proofs.Neighbours.{Standing, behind-stand}
 use Rattle.words.proofs.Repeated.{repeat-length}
@@ -86,10 +85,6 @@ packed-bound t {i} (more e f fs {gs} n h p) a j k l =
       length-append (line i (length f) e (wordOf t g) (sharedColumn t g gs)) (lines t gs),
       line-most i (length f) e (wordOf t g) (sharedColumn t g gs) (omega arith) (omega arith) (omega arith) size short,
     )
-
--- a pattern has no more factors than symbols
-factors-few : (s : List ℕ) → length (factors s) ≤ length s
-factors-few s = omega (arith, end-apart 0 (length (factors s)) (factors s) (factors-falling s) (omega arith) (omega arith), end-all s)
 
 -- the lines of a pattern whose places are 16-bit numbers
 pub suffix-most : (s : List ℕ) (i : ℕ) → i ≤ length s → length s ≤ 65535 → length (lines s (suffixGroups s i)) ≤ 20 * length s

@@ -101,9 +101,12 @@ listing-length s =
     let rest = lines s (suffixGroups s 0) in
     ap length (listing-parts s) ∙ length-append header rest ∙ ap (λ n. n + length rest) length-header
 
--- a buffer of this length always suffices
+-- a buffer of this length suffices for any listing of so many bytes
+pub listing-most : (s : List ℕ) → length s ≤ maxPattern → length (listingText s) ≤ 32 + 20 * length s
+listing-most s h = omega (arith, listing-length s, suffix-most s 0 (omega arith) (omega arith))
+
 pub listing-room : (s : List ℕ) → length s ≤ maxPattern → length (listingText s) ≤ maxListing
-listing-room s h = omega (arith, listing-length s, suffix-most s 0 (omega arith) (omega arith))
+listing-room s h = omega (arith, listing-most s h)
 
 pub listing-put : (s d : List ℕ) {b b′ : List ℕ} {n m : ℕ} → Room (listingText s) 0 d → Puts header 0 d b n
     → Puts (lines s (suffixGroups s 0)) n b b′ m → Puts (listingText s) 0 d b′ m

@@ -2,6 +2,7 @@
 // the groups of a pattern. That the buffer is long enough is the caller's concern.
 use decimal::digit_count;
 use decimal::write_decimal;
+use hex::digit_list;
 use hex::pair_of;
 use refusals::MAX_PATTERN;
 use rows::write_bytes;
@@ -31,10 +32,11 @@ fn write_word(word: &[u8], buffer: &mut [u8], at: usize) -> usize
     requires { ⌜ Room (hexadecimal (now word)) at (now buffer) ⌝ }
     ensures { λ r. ⌜ Puts (hexadecimal (now (word .entry))) at (now (buffer .entry)) (now (buffer .exit)) r ⌝ }
 {
+    let digits = digit_list();
     let mut next = at;
     let mut k = 0;
     while k < word.len() {
-        let pair = pair_of(word[k] as usize);
+        let pair = pair_of(&digits, word[k] as usize);
         buffer[next] = pair[0];
         buffer[next + 1] = pair[1];
         next += 2;

@@ -11,14 +11,14 @@ use Rattle.words.specs.Order.{Less, Lyndon}
 use Rattle.words.proofs.Order.{Differ, less-differ, differ-less}
 
 -- the first difference of two strings
-record First (x y : List ℕ) : Type 0 where
-  place : ℕ
-  inLeft : place < length x
-  inRight : place < length y
-  less : getD x place 0 < getD y place 0
-  before : (t : ℕ) → t < place → getD x t 0 ≡ getD y t 0
+pub record First (x y : List ℕ) : Type 0 where
+  pub place : ℕ
+  pub inLeft : place < length x
+  pub inRight : place < length y
+  pub less : getD x place 0 < getD y place 0
+  pub before : (t : ℕ) → t < place → getD x t 0 ≡ getD y t 0
 
-differ-first : (x y : List ℕ) → Differ x y → First x y
+pub differ-first : (x y : List ℕ) → Differ x y → First x y
 differ-first [] y h = absurd h
 differ-first (x ∷ xs) [] h = absurd h
 differ-first (x ∷ xs) (y ∷ ys) (inl h) =
@@ -49,6 +49,19 @@ pub record Below (s : List ℕ) (i c n : ℕ) : Type 0 where
   pub inside : right < n
   pub less : getD s left 0 < getD s right 0
   pub before : (a b : ℕ) → a + c ≡ b + i → i ≤ a → a < left → getD s a 0 ≡ getD s b 0
+
+-- the same before a later end
+pub below-wider : {s : List ℕ} {i c n m : ℕ} → Below s i c n → n ≤ m → Below s i c m
+below-wider d l =
+    record {
+      left = d .left;
+      right = d .right;
+      apart = d .apart;
+      after = d .after;
+      inside = omega (arith, d .inside);
+      less = d .less;
+      before = d .before;
+    }
 
 pub word-length : (s : List ℕ) (i p : ℕ) → i + p ≤ length s → length (take p (drop i s)) ≡ p
 word-length s i p fits = omega (arith, length-take p (drop i s), length-drop i s)

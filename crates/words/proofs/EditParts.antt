@@ -17,7 +17,7 @@ use Rattle.words.specs.Edit.{member, sameAll, startingBefore, middleOf}
 use Rattle.words.proofs.Bounded.{le-or-lt, le-cases, and-true, true-false, largest-le, largest-max, largest-test}
 use Rattle.words.proofs.Bounded.{smallest-le, smallest-passes, smallest-min, smallest-is}
 use Rattle.words.proofs.Order.{same-true, same-refl}
-use Rattle.words.proofs.Factors.{Falling, join-append, falling-left, falling-right, factors-falling, join-factors, factors-right}
+use Rattle.words.proofs.Factors.{Falling, join-append, falling-left, falling-right, factors-falling, join-factors, factors-left, factors-right}
 use Rattle.words.proofs.Substrings.{factors-front}
 
 pub end-grows : (c d : ℕ) (fs : List (List ℕ)) → c ≤ d → startAt fs c ≤ startAt fs d
@@ -63,6 +63,18 @@ take-end c s =
 pub factors-after : (c : ℕ) (s : List ℕ) → factors (drop (startAt (factors s) c) s) ≡ drop c (factors s)
 factors-after c s =
     ap factors (drop-end c s) ∙ factors-right s (take c (factors s)) (drop c (factors s)) (sym (take-append-drop c (factors s)))
+
+-- The first d factors, as the factors of what they join to, and those between the first c and the first d.
+pub factors-before : (d : ℕ) (s : List ℕ) → factors (take (startAt (factors s) d) s) ≡ take d (factors s)
+factors-before d s =
+    ap factors (take-end d s) ∙ factors-left s (take d (factors s)) (drop d (factors s)) (sym (take-append-drop d (factors s)))
+
+pub factors-part : (c d : ℕ) (s : List ℕ) → c ≤ d → factors (drop (startAt (factors s) c) (take (startAt (factors s) d) s)) ≡ drop c (take d (factors s))
+factors-part c d s h =
+    let u = take (startAt (factors s) d) s in
+    let at : startAt (factors u) c ≡ startAt (factors s) c =
+    ap (λ fs. startAt fs c) (factors-before d s) ∙ ap (λ fs. length (join fs)) (take-take c d (factors s) h) in
+    ap (λ i. factors (drop i u)) (sym at) ∙ factors-after c u ∙ ap (drop c) (factors-before d s)
 
 -- How many of the strings end at or before place q.
 unfoldable pub endingBy : ℕ → List (List ℕ) → ℕ

@@ -208,6 +208,14 @@ pub join-factors : (s : List ℕ) → join (factors s) ≡ s
 unfolding factors
 join-factors s = falling-up-to (length s) s (omega arith) .1
 
+falling-few : (fs : List (List ℕ)) → Falling fs → length fs ≤ length (join fs)
+falling-few [] h = omega arith
+falling-few (f ∷ fs) h = omega (arith, h .0 .some, length-append f (join fs), falling-few fs (h .2))
+
+-- a pattern has no more factors than symbols
+pub factors-few : (s : List ℕ) → length (factors s) ≤ length s
+factors-few s = omega (arith, falling-few (factors s) (factors-falling s), ap length (join-factors s))
+
 pub factors-only : (s : List ℕ) (fs : List (List ℕ)) → Falling fs → join fs ≡ s → fs ≡ factors s
 factors-only s fs h e = falling-unique fs (factors s) h (factors-falling s) (e ∙ sym (join-factors s))
 

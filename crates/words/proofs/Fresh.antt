@@ -17,10 +17,10 @@ use Rattle.words.proofs.Bounded.{le-cases, smallest-le, smallest-passes
 use Rattle.words.proofs.Order.{differ-less, less-irrefl, less-trans}
 use Rattle.words.proofs.Lyndon.{Cut, long, short, cut}
 use Rattle.words.proofs.Factors.{Falling, falling-right, factors-falling}
-use Rattle.words.proofs.Groups.{groups-place, groups-most}
+use Rattle.words.proofs.Groups.{groups-place, groups-few}
 use Rattle.words.proofs.Below.{first-differ}
 use Rattle.words.proofs.Scan.{Scan, Stops, Stopped, scan-stops, scan-group, scan-times}
-use Rattle.words.proofs.EditParts.{end-apart, end-all, endingBy, ending-before, ending-over, rest-cut}
+use Rattle.words.proofs.EditParts.{endingBy, ending-before, ending-over, rest-cut}
 
 below-power : (m : ℕ) → m < 2 ^ m
 below-power zero = omega arith
@@ -139,9 +139,7 @@ front-fresh s q i = go (drop c (factors s)) refl (rest-cut s q c (ending-before 
     size = omega (arith, length-drop (startAt (factors s) c) (take q s), length-take q s)
 
     go : (gs : List (List ℕ)) → drop c (factors s) ≡ gs → join gs ≡ z ++ drop q s → length (groupsFrom i (factors z)) ≤ bits q
-    go [] e p =
-        let n = end-apart 0 (length (factors z)) (factors z) (factors-falling z) (omega arith) (omega arith) in
-        omega (arith, ap length p, length-append z (drop q s), groups-most i (factors z), n, end-all z)
+    go [] e p = omega (arith, ap length p, length-append z (drop q s), groups-few i z)
     go (f ∷ gs) e p = at (cut f (join gs) z (drop q s) p)
       where
         next : Falling (f ∷ gs)

@@ -1,12 +1,14 @@
--- G1 and the laws of groups: what a stretch of equal factors packs to, that powers are maximal, and how the number of groups grows.
+-- G1 and the laws of groups: what a stretch of equal factors packs to, that powers are maximal, how the number of groups grows, and that there are no
+-- more than symbols.
 use mathlib.Core.Bool.{Bool, true, false, cond}
 use mathlib.Core.List.{List, [], _∷_, _++_}
 use mathlib.Core.Path.{_≡_, refl, sym, ap, _∙_}
 use Prim.Native.Nat.{ℕ, zero, suc, _+_, _*_, _≤_, _<_, max}
 use native.Mathlib.Omega.{arith}
 use lib.ListN.{length, replicate}
-use Rattle.words.specs.Factors.{startsWith, Group, withFactor, groupsFrom}
+use Rattle.words.specs.Factors.{factors, startsWith, Group, withFactor, groupsFrom}
 use Rattle.words.proofs.Bounded.{true-false}
+use Rattle.words.proofs.Factors.{factors-few}
 use Rattle.words.proofs.Order.{same-true, same-refl}
 
 -- a group by its numbers
@@ -59,7 +61,7 @@ packed-only none = refl
 packed-only {i} (more e f fs {gs} n h p) = rw (groups-repeat f fs i e h n, packed-only p) refl
 
 -- how many groups one more factor makes
-length-with : (b : Bool) (i l : ℕ) (gs : List Group) → length (withFactor b i l gs) ≡ cond b (max 1 (length gs)) (suc (length gs))
+pub length-with : (b : Bool) (i l : ℕ) (gs : List Group) → length (withFactor b i l gs) ≡ cond b (max 1 (length gs)) (suc (length gs))
 length-with false i l gs = refl
 length-with true i l [] = refl
 length-with true i l (g ∷ gs) = omega arith
@@ -97,6 +99,10 @@ groups-append i j (f ∷ g ∷ fs) gs =
 pub groups-most : (i : ℕ) (fs : List (List ℕ)) → length (groupsFrom i fs) ≤ length fs
 groups-most i [] = omega arith
 groups-most i (f ∷ fs) = omega (arith, with-most (startsWith f fs) i (length f) (groupsFrom (i + length f) fs), groups-most (i + length f) fs)
+
+-- a pattern has no more groups than symbols
+pub groups-few : (i : ℕ) (s : List ℕ) → length (groupsFrom i (factors s)) ≤ length s
+groups-few i s = omega (arith, groups-most i (factors s), factors-few s)
 
 pub groups-left : (i j : ℕ) (fs gs : List (List ℕ)) → length (groupsFrom i fs) ≤ length (groupsFrom j (fs ++ gs))
 groups-left i j [] gs = omega arith

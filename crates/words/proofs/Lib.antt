@@ -15,6 +15,7 @@ pub mod Rotation
 pub mod RotationGroups
 pub mod Repeated
 pub mod UniqueLeast
+pub mod RotationRound
 pub mod Tree
 pub mod Answer
 pub mod EditParts

@@ -3,13 +3,12 @@ use mathlib.Core.List.{List}
 use mathlib.Core.Path.{_≡_, sym, ap, _∙_}
 use Prim.Native.Nat.{ℕ, _+_, _-_, _≤_}
 use native.Mathlib.Omega.{arith}
-use lib.ListN.{length, take, drop, take-append-drop}
+use lib.ListN.{length, take, drop}
 use lib.Seq.{take-take, drop-at, length-take-le}
 use Rattle.words.specs.Factors.{factors, startAt, groupsFrom}
 use Rattle.words.specs.Tables.{suffixGroups}
 use Rattle.words.specs.Edit.{edited, place, kept, resume, middle, middleGroups}
-use Rattle.words.proofs.Factors.{factors-left}
-use Rattle.words.proofs.EditParts.{take-end, factors-after, take-split, starting-le}
+use Rattle.words.proofs.EditParts.{factors-before, factors-after, take-split, starting-le}
 use Rattle.words.proofs.Edit.{resumeFactor, kept-same, kept-first, resume-first, middle-is}
 
 module _ (s : List ℕ) (from to : ℕ) (b : List ℕ) (h : from ≤ to) (l : to ≤ length s) where
@@ -24,8 +23,7 @@ module _ (s : List ℕ) (from to : ℕ) (b : List ℕ) (h : from ≤ to) (l : to
 
   pub front-factors : factors (take (place from to b (resume s from to b)) t) ≡ take d (factors t)
   front-factors =
-      rw (resume-first s from to b h l, take-end d t)
-      (factors-left t (take d (factors t)) (drop d (factors t)) (sym (take-append-drop d (factors t))))
+      ap (λ i. factors (take i t)) (resume-first s from to b h l) ∙ factors-before d t
 
   kept-end : startAt (factors s) c ≡ startAt (factors (take (place from to b (resume s from to b)) t)) c
   kept-end =

@@ -9,21 +9,15 @@ use native.Mathlib.Omega.{arith}
 use lib.ListN.{length, take, drop, getD, replicate, length-append, length-take, length-drop}
 use lib.Seq.{drop-cons, getD-take, take-take, drop-drop, ext-getD, take-at}
 use Rattle.words.specs.Order.{Lyndon, lyndon}
+pub use Rattle.words.specs.Scan.{Scan}
 use Rattle.words.specs.Factors.{join, longestPrefix, factors, startsWith, Group, groupsFrom}
-use Rattle.words.proofs.Bounded.{le-cases, largest-is}
+use Rattle.words.proofs.Bounded.{le-or-lt, le-cases, largest-is}
 use Rattle.words.proofs.Order.{ThreeN, smallerN, equalN, greaterN, threeN, false-same}
 use Rattle.words.proofs.Lyndon.{length-some, lyndon-one, true-lyndon, false-lyndon}
 use Rattle.words.proofs.Factors.{join-factors}
 use Rattle.words.proofs.Groups.{groups-repeat}
-use Rattle.words.proofs.Below.{Below, word-length, drop-take, word-at, lyndon-below, below-lyndon}
+use Rattle.words.proofs.Below.{Below, word-length, drop-take, word-at, below-wider, lyndon-below, below-lyndon}
 use Rattle.words.proofs.Substrings.{factors-first}
-
-pub record Scan (s : List ℕ) (i j p : ℕ) : Type 0 where
-  pub some : 0 < p
-  pub fits : i + p ≤ j
-  pub ends : j ≤ length s
-  pub word : Lyndon (take p (drop i s))
-  pub period : (k : ℕ) → i ≤ k → k + p < j → getD s (k + p) 0 ≡ getD s k 0
 
 -- the pattern ends at j, or shows a smaller symbol there than the period asks for
 abbrev pub Stops : List ℕ → ℕ → ℕ → Type 0
@@ -105,17 +99,7 @@ module _ {s : List ℕ} {i j p : ℕ} (c : Scan s i j p) (k : ℕ) (e : k + p �
   raise (suc n) b f l m = go (threeN b (i + p)) (λ a x y z. raise n a x y z)
     where
       go : ThreeN b (i + p) → ((a : ℕ) → a ≤ i + n → i < a → a ≤ j → Below s i a (j + 1)) → Below s i b (j + 1)
-      go (smallerN o) ih =
-          let d = lyndon-below s i p (omega arith) (c .word) b l o in
-          record {
-            left = d .left;
-            right = d .right;
-            apart = d .apart;
-            after = d .after;
-            inside = omega arith;
-            less = d .less;
-            before = d .before;
-          }
+      go (smallerN o) ih = below-wider (lyndon-below s i p (omega arith) (c .word) b l o) (omega arith)
       go (equalN o) ih =
           raise-here i b k (omega arith) (omega arith) m (omega arith) (omega arith) (λ x y g q r. ap (λ u. getD s u 0) {x = x} {y = y} (omega arith))
       go (greaterN o) ih = raise-next (b - p) b (omega arith) (omega arith) m (ih (b - p) (omega arith) (omega arith) (omega arith))
@@ -130,6 +114,22 @@ scan-up {s} {i} {j} {p} c k q e f l h =
       word = below-lyndon s i q (omega arith) (omega arith) (λ b m n. rw f (raise c k e h q b (omega arith) m (omega arith)));
       period = λ k a b. absurd (omega arith);
     }
+
+-- a word grows over suffixes that are greater than it
+pub scan-grow : {s : List ℕ} {i j e : ℕ} → Scan s i j (j - i) → j ≤ e → e ≤ length s → ((t : ℕ) → j ≤ t → t < e → Below s i t e) → Scan s i e (e - i)
+scan-grow {s} {i} {j} {e} c l h g =
+    let f : i + (e - i) ≡ e = omega arith in
+    record {
+      some = omega arith;
+      fits = omega arith;
+      ends = h;
+      word = below-lyndon s i (e - i) (omega arith) (omega arith) (λ b m n. rw f (go b m (omega arith) (le-or-lt j b)));
+      period = λ k a b. absurd (omega arith);
+    }
+  where
+    go : (b : ℕ) → i < b → b < e → (j ≤ b) ⊎ (b < j) → Below s i b e
+    go b m n (inl o) = g b o n
+    go b m n (inr o) = below-wider (lyndon-below s i (j - i) (omega arith) (c .word) b m (omega arith)) (omega arith)
 
 -- s[k..) shows again what it showed one word earlier
 pub scan-shift : {s : List ℕ} {i j p : ℕ} → Scan s i j p → (k r : ℕ) → i ≤ k → k + p + r ≤ j → take r (drop (k + p) s) ≡ take r (drop k s)

@@ -76,6 +76,10 @@ less-behind a b k e =
     let q : b ≡ take k a ++ drop k b = sym (take-append-drop k b) ∙ ap (λ w. w ++ drop k b) (sym e) in
     ap (λ w. less w b) p ∙ ap (less (take k a ++ drop k a)) q ∙ less-behind-front (take k a) (drop k a) (drop k b)
 
+pub smaller-behind : (a b : List ℕ) (k : ℕ) → take k a ≡ take k b → smaller a b ≡ smaller (drop k a) (drop k b)
+unfolding smaller
+smaller-behind a b k e = rw (less-behind a b k e, less-behind b a k (sym e))
+
 -- the three answers, and the two tests that are read off them
 module _ (a b : List ℕ) where
   smaller-cases : (u v : Bool) → less a b ≡ u → less b a ≡ v → smaller a b ≡ cond u 1 (cond v 2 0)

@@ -4,7 +4,7 @@ use mathlib.Core.Bool.{false}
 use mathlib.Core.List.{List, _++_}
 use mathlib.Core.Logic.{_⊎_, inl, inr, _↔_}
 use mathlib.Core.Path.{_≡_, sym, ap, _∙_}
-use Prim.Native.Nat.{ℕ, _+_, _*_, _-_, _/_, _%_, _≤_, _<_}
+use Prim.Native.Nat.{ℕ, zero, suc, _+_, _*_, _-_, _/_, _%_, _≤_, _<_}
 use native.Mathlib.Nat.{div-add-mod', mod-lt, mul-le-mul-right}
 use native.Mathlib.Omega.{arith}
 use lib.Dec.{ltb}
@@ -45,7 +45,7 @@ module _ (s : List ℕ) {j p : ℕ} (c : Scan (s ++ s) (leastRotation s) j p) (s
   end : j ≡ length s + length s
   end = least-start-scan s c stops
 
-  factor-whole : p ≤ length s
+  pub factor-whole : p ≤ length s
   factor-whole =
       lyndon-period (s ++ s) r p (length s) n
       (λ i l. let e : i + length s ≡ length s + i = omega arith in ap (λ u. getD (s ++ s) u 0) e ∙ again s i (omega (arith, l, size)))
@@ -123,6 +123,30 @@ module _ (s : List ℕ) {j p : ℕ} (c : Scan (s ++ s) (leastRotation s) j p) (s
     shorter-repeats =
         let d = divides (le-or-lt m 0) in
         repeated-front s e p short d (period-repeat e p s d whole-period)
+
+    -- the rotation one factor earlier is the same, so the least start has no room for one before it
+    start-early : (k : ℕ) → length s ≡ suc k * p → (p ≤ r) ⊎ (r < p) → r < p
+    start-early k d (inr l) = l
+    start-early k d (inl l) =
+        let a : r - p + p ≡ r = omega arith in
+        let earlier = rotation-again s (r - p) p (omega (arith, within)) (λ x u. at x u (le-or-lt p x)) in
+        absurd (less-irrefl (rotation s r) (rw (rw a at earlier) at (least-rotation-first s (r - p) (omega (arith, c .some)))))
+      where
+        at : (x : ℕ) → x < length s → (p ≤ x) ⊎ (x < p) → getD (s ++ s) (r - p + x + p) 0 ≡ getD (s ++ s) (r - p + x) 0
+        at x u (inl h) = c .period (r - p + x) (omega arith) (omega (arith, end, within))
+        at x u (inr h) =
+            let a : r - p + x + p ≡ r + x = omega arith in
+            let b : r + x + k * p ≡ length s + (r - p + x) = omega arith in
+            ap (λ u. getD (s ++ s) u 0) a ∙ sym (scan-times c k (r + x) (omega arith) (omega (arith, end, within)))
+            ∙ ap (λ u. getD (s ++ s) u 0) b ∙ again s (r - p + x) (omega (arith, within))
+
+    -- a shorter factor divides the pattern, and the least start is inside the first
+    pub factor-divides : (r < p) × ((k : ℕ) × (length s ≡ k * p))
+    factor-divides = go e (divides (le-or-lt m 0))
+      where
+        go : (k : ℕ) → length s ≡ k * p → (r < p) × ((k : ℕ) × (length s ≡ k * p))
+        go zero d = absurd (omega arith)
+        go (suc k) d = (start-early k d (le-or-lt p r), (suc k, d))
 
   pub factor-tells : ltb p (length s) ≡ repeated s
   factor-tells = go (le-or-lt (length s) p)

@@ -1,4 +1,4 @@
--- Reading order: Bounded, Order, Factors, Tables, Rotation, Tree, Edit, Demand.
+-- Reading order: Bounded, Order, Factors, Tables, Rotation, Tree, Edit, Demand. Scan is for the code alone.
 pub mod Bounded
 pub mod Order
 pub mod Factors
@@ -7,3 +7,4 @@ pub mod Rotation
 pub mod Tree
 pub mod Edit
 pub mod Demand
+pub mod Scan

@@ -1,4 +1,4 @@
--- `longest::measure` meets its contract: `best` is the longest of the groups before place i.
+-- `longest::measure` meets its contract: `best` is the longest of the groups before place i, and `run` the power of its group.
 use Prim.Native.Nat.{_-_}
 use lib.ListN.{length}
 use Rattle.scan.proofs.Next.{group-long}
@@ -10,13 +10,14 @@ use Rattle.longest.proofs.measure.Tie as tie
 use Rattle.longest.proofs.measure.Reads as reads
 use Rattle.longest.proofs.measure.Lts as lts
 use Rattle.longest.proofs.better.Reads as better-reads
+use Rattle.longest.proofs.first_run.Reads as first-run-reads
 use Rattle.scan.proofs.next_group.Reads as next-group-reads
 
 abbrev Inv-loop : tie.InvT-loop
-Inv-loop s best₀ i₀ best i = Measured s best i
+Inv-loop s best₀ run₀ i₀ best run i = Measured s best run i
 
 abbrev μ-loop : tie.MeasureT-loop
-μ-loop s best₀ i₀ best i = length s - i
+μ-loop s best₀ run₀ i₀ best run i = length s - i
 
 loop-holds : tie.Need-loop-holds Inv-loop μ-loop
 loop-holds c = measured-none (c .before .args .s .now)
@@ -24,8 +25,11 @@ loop-holds c = measured-none (c .before .args .s .now)
 next-group-requires : tie.Need-next-group-requires Inv-loop μ-loop
 next-group-requires c κs = search needs
 
+first-run-requires : tie.Need-first-run-requires Inv-loop μ-loop
+first-run-requires c κs = search needs
+
 better-requires : tie.Need-better-requires Inv-loop μ-loop
-better-requires c κs = omega (arith, measured-fits (c .before .before .loop .inv) (c .next-group .ensures))
+better-requires c κs = omega (arith, measured-fits (c .before .before .before .loop .inv) (c .before .next-group .ensures))
 
 mul-i : tie.Need-mul-i Inv-loop μ-loop
 mul-i c = search needs
@@ -34,12 +38,12 @@ add-i : tie.Need-add-i Inv-loop μ-loop
 add-i c = search needs
 
 loop-less : tie.Need-loop-less Inv-loop μ-loop
-loop-less c = omega (arith, group-long (c .before .before .next-group .ensures))
+loop-less c = omega (arith, group-long (c .before .before .before .next-group .ensures))
 
 loop-again : tie.Need-loop-again Inv-loop μ-loop
 loop-again c =
-    let g = c .before .before in
-    rw (c .before .better .ensures) (measured-more (g .before .before .loop .inv) (g .next-group .ensures))
+    let g = c .before .before .before in
+    rw (c .before .better .ensures, c .before .before .first-run .ensures) (measured-more (g .before .before .loop .inv) (g .next-group .ensures))
 
 returns : tie.Need-returns Inv-loop μ-loop
 returns c = measured-all (c .before .before .before .args .s .now) (c .before .loop .inv) (search needs)
@@ -52,6 +56,7 @@ measure-spec =
     μ-loop
     loop-holds
     next-group-requires
+    first-run-requires
     better-requires
     mul-i
     add-i

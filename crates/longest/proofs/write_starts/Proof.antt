@@ -2,11 +2,9 @@
 use mathlib.Core.Logic.{⊎-elim}
 use Prim.Native.Nat.{_-_}
 use lib.ListN.{length}
-use Rattle.words.specs.Tables.{suffixGroups, longestStarts}
-use Rattle.rows.proofs.Wrote.{Wrote, wrote-length}
-use Rattle.longest.proofs.Starts.{startsOf}
+use Rattle.rows.proofs.Wrote.{wrote-length}
 use Rattle.scan.proofs.Next.{group-long}
-use Rattle.longest.proofs.Writes.{list-none, list-room, list-run, list-over, list-all}
+use Rattle.longest.proofs.Writes.{Listed, list-none, list-room, list-run, list-over, list-all}
 use borrow.Author.Needs.{needs}
 use native.Mathlib.Omega.{arith}
 use Rattle.longest.proofs.write_starts.Statement.{statement}
@@ -17,15 +15,15 @@ use Rattle.longest.proofs.write_run.Reads as write-run-reads
 use Rattle.scan.proofs.next_group.Reads as next-group-reads
 
 abbrev Inv-loop : tie.InvT-loop
-Inv-loop s size row₀ at₀ i₀ row at i = Wrote (longestStarts s) row₀ row at (startsOf size (suffixGroups s i))
+Inv-loop s from size row₀ at next₀ i₀ row next i = Listed s from size at row₀ row next i
 
 abbrev μ-loop : tie.MeasureT-loop
-μ-loop s size row₀ at₀ i₀ row at i = length s - i
+μ-loop s from size row₀ at next₀ i₀ row next i = length s - i
 
 loop-holds : tie.Need-loop-holds Inv-loop μ-loop
 loop-holds c =
-    let s = c .before .before in
-    list-none (s .args .s .now) (s .args .row .now) (s .args .size) (search needs) (search needs)
+    let a = c .before .before .args in
+    list-none (a .s .now) (a .from) (a .size) (a .at) (a .row .now) (search needs)
 
 next-group-requires : tie.Need-next-group-requires Inv-loop μ-loop
 next-group-requires c κs = search needs
@@ -60,7 +58,8 @@ returns : tie.Need-returns Inv-loop μ-loop
 returns c =
     let l = c .before in
     let s = l .before .before .before in
-    list-all (s .args .s .now) (s .args .size) (l .loop .i) (l .loop .inv) (search needs)
+    let a = s .args in
+    list-all (a .s .now) (a .from) (a .size) (a .at) (a .row .now) (search needs) (l .loop .inv) (search needs)
 
 pub write-starts-spec : {M : Type 1} → statement M
 write-starts-spec =

@@ -18,9 +18,9 @@ measure-requires c κs = search needs
 returns-2 : tie.Need-returns-2
 unfolding longestOf
 returns-2 c =
-    let m = c .measure in
-    place-found (c .before .before .before .args .pattern .now) (search needs) (m .result .start) (m .result .length)
-    (ap (λ r. r .start) (m .ensures)) (ap (λ r. r .length) (m .ensures))
+    let m = c .before .measure in
+    place-found (c .before .before .before .before .args .pattern .now) (search needs) (m .result .found .start) (m .result .found .length)
+    (ap (λ r. r .start) (m .ensures .best)) (ap (λ r. r .length) (m .ensures .best))
 
 pub longest-word-place-spec : {M : Type 1} → statement M
 longest-word-place-spec = tie.close (tie.spec returns measure-requires returns-2)

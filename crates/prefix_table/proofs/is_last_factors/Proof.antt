@@ -3,7 +3,8 @@ use mathlib.Core.Path.{_≡_}
 use Prim.Native.Nat.{_-_}
 use lib.ListN.{length}
 use Rattle.rows.proofs.Fill.{Right, right-none, right-join, tested-all, tested-wrong}
-use Rattle.prefix_table.proofs.Last.{lastTo, last-table}
+use Rattle.prefix_table.specs.State.{lastTo}
+use Rattle.prefix_table.proofs.Last.{last-table}
 use Rattle.prefix_table.proofs.Pass.{Reached, reached-start, reached-next, reached-factor}
 use native.Mathlib.Omega.{arith}
 use Rattle.prefix_table.proofs.is_last_factors.Statement.{statement}

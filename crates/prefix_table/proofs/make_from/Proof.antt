@@ -1,136 +1,198 @@
--- `prefix_table::make_from` meets its contract: the loop keeps the state of Duval's scan and the entries up to j.
+-- `prefix_table::make_from` meets its contract: the loops keep the state of Duval's scan and the entries up to j.
 use mathlib.Core.Logic.{⊎-elim}
 use mathlib.Core.Path.{_∙_}
-use Prim.Native.Nat.{_-_}
+use Prim.Native.Nat.{_-_, _≤_, _<_}
 use lib.ListN.{length, length-set}
 use Rattle.scan.proofs.Next.{stop-smaller, stop-end}
+use Rattle.prefix_table.specs.State.{Making}
 use Rattle.prefix_table.proofs.Start.{start-below}
-use Rattle.prefix_table.proofs.Last.{Making, making-start, making-up, making-same, made-from, rest-fits}
+use Rattle.prefix_table.proofs.Last.{making-start, making-up, making-same, made-from, rest-fits}
+use Rattle.prefix_table.proofs.Blocks.{making-here, making-on}
 use borrow.Author.Needs.{needs}
 use native.Mathlib.Omega.{arith}
 use Rattle.prefix_table.proofs.make_from.Statement.{statement}
 use Rattle.prefix_table.proofs.make_from.Tie as tie
 use Rattle.prefix_table.proofs.make_from.Reads as reads
 use Rattle.prefix_table.proofs.make_from.Lts as lts
+use Rattle.scan.proofs.blocks.next_gap.Reads as next-gap-reads
+use Rattle.entries.proofs.steps.Reads as steps-reads
+use Rattle.prefix_table.proofs.make_blocks.Reads as make-blocks-reads
+
+abbrev Inv-loop2 : tie.InvT-loop2
+Inv-loop2 s table₀ i n p₀ j₀ gap stop table p j = (j ≤ stop) × (stop ≤ length s) × Making s table₀ table i j p
+
+abbrev μ-loop2 : tie.MeasureT-loop2
+μ-loop2 s table₀ i n p₀ j₀ gap stop table p j = length s - j
 
 abbrev Inv-loop : tie.InvT-loop
-Inv-loop s table₀ i n p₀ j₀ table p j = Making s table₀ table i j p
+Inv-loop s table₀ i n p₀ j₀ gap₀ table p j gap = (0 < gap) × (gap ≤ 256) × Making s table₀ table i j p
 
 abbrev μ-loop : tie.MeasureT-loop
-μ-loop s table₀ i n p₀ j₀ table p j = length s - j
+μ-loop s table₀ i n p₀ j₀ gap₀ table p j gap = length s - j
 
-mul-table : tie.Need-mul-table Inv-loop μ-loop
-mul-table c = omega (arith, start-below (c .pre .0))
+mul-table : tie.Need-mul-table Inv-loop2 μ-loop2 Inv-loop μ-loop
+mul-table c = omega (arith, start-below (c .before .before .pre .0))
 
-slice-write-table : tie.Need-slice-write-table Inv-loop μ-loop
-slice-write-table c = omega (arith, start-below (c .pre .0))
+slice-write-table : tie.Need-slice-write-table Inv-loop2 μ-loop2 Inv-loop μ-loop
+slice-write-table c = omega (arith, start-below (c .before .before .pre .0))
 
-add-j : tie.Need-add-j Inv-loop μ-loop
-add-j c = omega (arith, start-below (c .pre .0))
+add-j : tie.Need-add-j Inv-loop2 μ-loop2 Inv-loop μ-loop
+add-j c = omega (arith, start-below (c .before .before .pre .0))
 
-loop-holds : tie.Need-loop-holds Inv-loop μ-loop
-loop-holds c = making-start (c .pre .0) (c .args .table .now) (omega arith)
+loop-holds : tie.Need-loop-holds Inv-loop2 μ-loop2 Inv-loop μ-loop
+loop-holds c =
+    let b = c .before .before in
+    (search needs, search needs, making-start (b .pre .0) (b .args .table .now) (omega arith))
 
-sub-x : tie.Need-sub-x Inv-loop μ-loop
+sub-steps : tie.Need-sub-steps Inv-loop2 μ-loop2 Inv-loop μ-loop
+sub-steps c = search needs
+
+steps-requires : tie.Need-steps-requires Inv-loop2 μ-loop2 Inv-loop μ-loop
+steps-requires c κs = search needs
+
+add-stop : tie.Need-add-stop Inv-loop2 μ-loop2 Inv-loop μ-loop
+add-stop c = search needs
+
+loop2-holds : tie.Need-loop2-holds Inv-loop2 μ-loop2 Inv-loop μ-loop
+loop2-holds c = (search needs, search needs, making-here (c .before .before .loop .inv .2))
+
+sub-x : tie.Need-sub-x Inv-loop2 μ-loop2 Inv-loop μ-loop
 sub-x c = search needs
 
-shared-slice-read-x : tie.Need-shared-slice-read-x Inv-loop μ-loop
+shared-slice-read-x : tie.Need-shared-slice-read-x Inv-loop2 μ-loop2 Inv-loop μ-loop
 shared-slice-read-x c = search needs
 
-shared-slice-read-y : tie.Need-shared-slice-read-y Inv-loop μ-loop
+shared-slice-read-y : tie.Need-shared-slice-read-y Inv-loop2 μ-loop2 Inv-loop μ-loop
 shared-slice-read-y c = search needs
 
-sub-result : tie.Need-sub-result Inv-loop μ-loop
+sub-result : tie.Need-sub-result Inv-loop2 μ-loop2 Inv-loop μ-loop
 sub-result c = search needs
 
-rem-result : tie.Need-rem-result Inv-loop μ-loop
+rem-result : tie.Need-rem-result Inv-loop2 μ-loop2 Inv-loop μ-loop
 rem-result c = search needs
 
-sub-result-2 : tie.Need-sub-result-2 Inv-loop μ-loop
+sub-result-2 : tie.Need-sub-result-2 Inv-loop2 μ-loop2 Inv-loop μ-loop
 sub-result-2 c = rest-fits _ _ (omega arith)
 
-same-length : tie.Need-same-length Inv-loop μ-loop
+same-length : tie.Need-same-length Inv-loop2 μ-loop2 Inv-loop μ-loop
 same-length c =
-    let l = c .before .before .before .before in
-    l .loop .inv .filled .size ∙ length-set (l .before .args .table .now) (l .before .args .i) 1
+    let k = c .before .before .before .before in
+    let l = k .before .before .before in
+    let b = l .before .before .before .args in
+    making-on (l .loop .inv .2) (k .loop2 .inv .2) .filled .size ∙ length-set (b .table .now) (b .i) 1
 
-returns : tie.Need-returns Inv-loop μ-loop
+returns : tie.Need-returns Inv-loop2 μ-loop2 Inv-loop μ-loop
 returns c =
-    let l = c .before .before .before .before in
-    made-from (l .before .pre .0) (l .loop .inv) (stop-smaller (l .loop .inv .scan) (omega arith))
+    let k = c .before .before .before .before in
+    let l = k .before .before .before in
+    made-from (l .before .before .before .pre .0) (making-on (l .loop .inv .2) (k .loop2 .inv .2))
+    (stop-smaller (k .loop2 .inv .2 .scan) (omega arith))
 
-add-p : tie.Need-add-p Inv-loop μ-loop
+add-p : tie.Need-add-p Inv-loop2 μ-loop2 Inv-loop μ-loop
 add-p c = search needs
 
-sub-p : tie.Need-sub-p Inv-loop μ-loop
+sub-p : tie.Need-sub-p Inv-loop2 μ-loop2 Inv-loop μ-loop
 sub-p c = search needs
 
-cast-table : tie.Need-cast-table Inv-loop μ-loop
+cast-table : tie.Need-cast-table Inv-loop2 μ-loop2 Inv-loop μ-loop
 cast-table c = search needs
 
-mul-table-2 : tie.Need-mul-table-2 Inv-loop μ-loop
+mul-table-2 : tie.Need-mul-table-2 Inv-loop2 μ-loop2 Inv-loop μ-loop
 mul-table-2 c = search needs
 
-slice-write-table-2 : tie.Need-slice-write-table-2 Inv-loop μ-loop
+slice-write-table-2 : tie.Need-slice-write-table-2 Inv-loop2 μ-loop2 Inv-loop μ-loop
 slice-write-table-2 c = search needs
 
-sub-table : tie.Need-sub-table Inv-loop μ-loop
+sub-table : tie.Need-sub-table Inv-loop2 μ-loop2 Inv-loop μ-loop
 sub-table c = search needs
 
-mul-table-3 : tie.Need-mul-table-3 Inv-loop μ-loop
+mul-table-3 : tie.Need-mul-table-3 Inv-loop2 μ-loop2 Inv-loop μ-loop
 mul-table-3 c = search needs
 
-slice-read-table : tie.Need-slice-read-table Inv-loop μ-loop
+slice-read-table : tie.Need-slice-read-table Inv-loop2 μ-loop2 Inv-loop μ-loop
 slice-read-table c = search needs
 
-mul-table-4 : tie.Need-mul-table-4 Inv-loop μ-loop
+mul-table-4 : tie.Need-mul-table-4 Inv-loop2 μ-loop2 Inv-loop μ-loop
 mul-table-4 c = search needs
 
-slice-write-table-3 : tie.Need-slice-write-table-3 Inv-loop μ-loop
+slice-write-table-3 : tie.Need-slice-write-table-3 Inv-loop2 μ-loop2 Inv-loop μ-loop
 slice-write-table-3 c = search needs
 
-add-j-2 : tie.Need-add-j-2 Inv-loop μ-loop
+add-j-2 : tie.Need-add-j-2 Inv-loop2 μ-loop2 Inv-loop μ-loop
 add-j-2 c = search needs
 
-loop-less : tie.Need-loop-less Inv-loop μ-loop
-loop-less c = search needs
+loop2-less : tie.Need-loop2-less Inv-loop2 μ-loop2 Inv-loop μ-loop
+loop2-less c = search needs
 
-loop-again : tie.Need-loop-again Inv-loop μ-loop
+loop2-again : tie.Need-loop2-again Inv-loop2 μ-loop2 Inv-loop μ-loop
+loop2-again c =
+    let k = c .before .before .before .before .before in
+    let q = k .before .before .before .before .before .before .pre .0 in
+    let m = k .loop2 .inv .2 in (
+      search needs,
+      search needs,
+      ⊎-elim (λ w. rw (w .1, w .2) (making-up q m (omega arith) (w .0 .taken))) (λ w. rw (w .2, w .3) (making-same q m (omega arith) (omega arith)))
+          (c .if2 .came),
+    )
+
+make-blocks-requires : tie.Need-make-blocks-requires Inv-loop2 μ-loop2 Inv-loop μ-loop
+make-blocks-requires c κs =
+    let k = c .before .before in
+    let b = k .before .before .before .before .before .before in
+    (b .pre .0, b .pre .1, making-here (k .loop2 .inv .2))
+
+next-gap-requires : tie.Need-next-gap-requires Inv-loop2 μ-loop2 Inv-loop μ-loop
+next-gap-requires c κs = search needs
+
+loop-less : tie.Need-loop-less Inv-loop2 μ-loop2 Inv-loop μ-loop
+loop-less c =
+    let r = c .before .before .before .before .make-blocks .ensures in
+    let k = c .before .before .before .before .before .before .before in
+    omega (arith, k .before .steps .ensures .1 (omega arith), r .0, r .1 .scan .ends)
+
+loop-again : tie.Need-loop-again Inv-loop2 μ-loop2 Inv-loop μ-loop
 loop-again c =
-    let l = c .before .before .before .before .before in
-    let q = l .before .pre .0 in
-    ⊎-elim (λ w. rw (w .1, w .2) (making-up q (l .loop .inv) (omega arith) (w .0 .taken)))
-    (λ w. rw (w .2, w .3) (making-same q (l .loop .inv) (omega arith) (omega arith))) (c .if2 .came)
+    let r = c .before .before .before .before .make-blocks .ensures in
+    let k = c .before .before .before .before .before .before .before in
+    let l = k .before .before .before in
+    (c .next-gap .ensures .0, c .next-gap .ensures .1, making-on (l .loop .inv .2) (making-on (k .loop2 .inv .2) (r .1)))
 
-sub-result-3 : tie.Need-sub-result-3 Inv-loop μ-loop
+sub-result-3 : tie.Need-sub-result-3 Inv-loop2 μ-loop2 Inv-loop μ-loop
 sub-result-3 c = search needs
 
-rem-result-2 : tie.Need-rem-result-2 Inv-loop μ-loop
+rem-result-2 : tie.Need-rem-result-2 Inv-loop2 μ-loop2 Inv-loop μ-loop
 rem-result-2 c = search needs
 
-sub-result-4 : tie.Need-sub-result-4 Inv-loop μ-loop
+sub-result-4 : tie.Need-sub-result-4 Inv-loop2 μ-loop2 Inv-loop μ-loop
 sub-result-4 c = rest-fits _ _ (omega arith)
 
-same-length-2 : tie.Need-same-length-2 Inv-loop μ-loop
+same-length-2 : tie.Need-same-length-2 Inv-loop2 μ-loop2 Inv-loop μ-loop
 same-length-2 c =
     let l = c .before in
-    l .loop .inv .filled .size ∙ length-set (l .before .args .table .now) (l .before .args .i) 1
+    let b = l .before .before .before .args in
+    l .loop .inv .2 .filled .size ∙ length-set (b .table .now) (b .i) 1
 
-returns-2 : tie.Need-returns-2 Inv-loop μ-loop
+returns-2 : tie.Need-returns-2 Inv-loop2 μ-loop2 Inv-loop μ-loop
 returns-2 c =
     let l = c .before in
-    made-from (l .before .pre .0) (l .loop .inv) (stop-end (l .loop .inv .scan) (omega arith))
+    made-from (l .before .before .before .pre .0) (l .loop .inv .2) (stop-end (l .loop .inv .2 .scan) (omega arith))
 
 pub make-from-spec : {M : Type 1} → statement M
 make-from-spec =
     tie.close
     (tie.spec
+    Inv-loop2
+    μ-loop2
     Inv-loop
     μ-loop
     mul-table
     slice-write-table
     add-j
     loop-holds
+    sub-steps
+    steps-requires
+    add-stop
+    loop2-holds
     sub-x
     shared-slice-read-x
     shared-slice-read-y
@@ -150,6 +212,10 @@ make-from-spec =
     mul-table-4
     slice-write-table-3
     add-j-2
+    loop2-less
+    loop2-again
+    make-blocks-requires
+    next-gap-requires
     loop-less
     loop-again
     sub-result-3

@@ -3,7 +3,8 @@ use mathlib.Core.Path.{_≡_}
 use Prim.Native.Nat.{_-_}
 use lib.ListN.{length}
 use Rattle.rows.proofs.Fill.{Filled, filled-none, filled-all}
-use Rattle.prefix_table.proofs.Last.{lastTo, last-table}
+use Rattle.prefix_table.specs.State.{lastTo}
+use Rattle.prefix_table.proofs.Last.{last-table}
 use Rattle.prefix_table.proofs.Pass.{Reached, reached-start, reached-next, reached-factor, pass-made}
 use native.Mathlib.Omega.{arith}
 use Rattle.prefix_table.proofs.make_last_factors.Statement.{statement}

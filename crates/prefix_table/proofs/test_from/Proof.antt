@@ -1,11 +1,11 @@
--- `prefix_table::test_from` meets its contract: the loop keeps the state of Duval's scan and that the entries up to `end` are right.
+-- `prefix_table::test_from` meets its contract: the loops keep the state of Duval's scan and that the entries up to `end` are right.
 use mathlib.Core.Logic.{⊎-elim}
-use Prim.Native.Nat.{_-_}
+use Prim.Native.Nat.{_-_, _≤_, _<_}
 use lib.ListN.{length}
 use Rattle.scan.proofs.Next.{stop-smaller, stop-end}
+use Rattle.prefix_table.specs.State.{Testing}
 use Rattle.prefix_table.proofs.Start.{start-below}
 use Rattle.prefix_table.proofs.Last.{
-  Testing,
   testing-first,
   testing-start,
   testing-up,
@@ -21,130 +21,177 @@ use Rattle.prefix_table.proofs.test_from.Statement.{statement}
 use Rattle.prefix_table.proofs.test_from.Tie as tie
 use Rattle.prefix_table.proofs.test_from.Reads as reads
 use Rattle.prefix_table.proofs.test_from.Lts as lts
+use Rattle.scan.proofs.blocks.next_gap.Reads as next-gap-reads
+use Rattle.entries.proofs.steps.Reads as steps-reads
+use Rattle.prefix_table.proofs.test_blocks.Reads as test-blocks-reads
+
+abbrev Inv-loop2 : tie.InvT-loop2
+Inv-loop2 s table i n size₀ end₀ gap stop size end = (end ≤ stop) × (stop ≤ length s) × Testing s table i end size
+
+abbrev μ-loop2 : tie.MeasureT-loop2
+μ-loop2 s table i n size₀ end₀ gap stop size end = length s - end
 
 abbrev Inv-loop : tie.InvT-loop
-Inv-loop s table i n size₀ end₀ size end = Testing s table i end size
+Inv-loop s table i n size₀ end₀ gap₀ size end gap = (0 < gap) × (gap ≤ 256) × Testing s table i end size
 
 abbrev μ-loop : tie.MeasureT-loop
-μ-loop s table i n size₀ end₀ size end = length s - end
+μ-loop s table i n size₀ end₀ gap₀ size end gap = length s - end
 
-mul-if1 : tie.Need-mul-if1 Inv-loop μ-loop
-mul-if1 c = omega (arith, start-below (c .pre .0))
+mul-if1 : tie.Need-mul-if1 Inv-loop2 μ-loop2 Inv-loop μ-loop
+mul-if1 c = omega (arith, start-below (c .before .before .pre .0))
 
-shared-slice-read-if1 : tie.Need-shared-slice-read-if1 Inv-loop μ-loop
-shared-slice-read-if1 c = omega (arith, start-below (c .before .pre .0))
+shared-slice-read-if1 : tie.Need-shared-slice-read-if1 Inv-loop2 μ-loop2 Inv-loop μ-loop
+shared-slice-read-if1 c = omega (arith, start-below (c .before .before .before .pre .0))
 
-returns : tie.Need-returns Inv-loop μ-loop
+returns : tie.Need-returns Inv-loop2 μ-loop2 Inv-loop μ-loop
 returns c =
-    let b = c .before .before in
+    let b = c .before .before .before .before in
     testing-first (b .pre .0) (b .args .table .now) (λ e. omega (arith, e))
 
-add-end : tie.Need-add-end Inv-loop μ-loop
-add-end c = omega (arith, start-below (c .before .before .pre .0))
+add-end : tie.Need-add-end Inv-loop2 μ-loop2 Inv-loop μ-loop
+add-end c = omega (arith, start-below (c .before .before .before .before .pre .0))
 
-loop-holds : tie.Need-loop-holds Inv-loop μ-loop
+loop-holds : tie.Need-loop-holds Inv-loop2 μ-loop2 Inv-loop μ-loop
 loop-holds c =
-    let b = c .before .before in
-    testing-start (b .pre .0) (b .args .table .now) (omega arith)
+    let b = c .before .before .before .before in
+    (search needs, search needs, testing-start (b .pre .0) (b .args .table .now) (omega arith))
 
-sub-old : tie.Need-sub-old Inv-loop μ-loop
+sub-steps : tie.Need-sub-steps Inv-loop2 μ-loop2 Inv-loop μ-loop
+sub-steps c = search needs
+
+steps-requires : tie.Need-steps-requires Inv-loop2 μ-loop2 Inv-loop μ-loop
+steps-requires c κs = search needs
+
+add-stop : tie.Need-add-stop Inv-loop2 μ-loop2 Inv-loop μ-loop
+add-stop c = search needs
+
+loop2-holds : tie.Need-loop2-holds Inv-loop2 μ-loop2 Inv-loop μ-loop
+loop2-holds c = (search needs, search needs, c .before .before .loop .inv .2)
+
+sub-old : tie.Need-sub-old Inv-loop2 μ-loop2 Inv-loop μ-loop
 sub-old c = search needs
 
-shared-slice-read-old : tie.Need-shared-slice-read-old Inv-loop μ-loop
+shared-slice-read-old : tie.Need-shared-slice-read-old Inv-loop2 μ-loop2 Inv-loop μ-loop
 shared-slice-read-old c = search needs
 
-shared-slice-read-new : tie.Need-shared-slice-read-new Inv-loop μ-loop
+shared-slice-read-new : tie.Need-shared-slice-read-new Inv-loop2 μ-loop2 Inv-loop μ-loop
 shared-slice-read-new c = search needs
 
-sub-result : tie.Need-sub-result Inv-loop μ-loop
+sub-result : tie.Need-sub-result Inv-loop2 μ-loop2 Inv-loop μ-loop
 sub-result c = search needs
 
-rem-result : tie.Need-rem-result Inv-loop μ-loop
+rem-result : tie.Need-rem-result Inv-loop2 μ-loop2 Inv-loop μ-loop
 rem-result c = search needs
 
-sub-result-2 : tie.Need-sub-result-2 Inv-loop μ-loop
+sub-result-2 : tie.Need-sub-result-2 Inv-loop2 μ-loop2 Inv-loop μ-loop
 sub-result-2 c = rest-fits _ _ (omega arith)
 
-returns-2 : tie.Need-returns-2 Inv-loop μ-loop
+returns-2 : tie.Need-returns-2 Inv-loop2 μ-loop2 Inv-loop μ-loop
 returns-2 c =
-    let l = c .before .before .before .before in
-    let b = l .before .before .before in
-    tested-from (b .pre .0) (b .args .table .now) (l .loop .inv) (stop-smaller (l .loop .inv .scan) (omega arith))
+    let k = c .before .before .before .before in
+    let b = k .before .before .before .before .before .before .before .before in
+    tested-from (b .pre .0) (b .args .table .now) (k .loop2 .inv .2) (stop-smaller (k .loop2 .inv .2 .scan) (omega arith))
 
-add-size : tie.Need-add-size Inv-loop μ-loop
+add-size : tie.Need-add-size Inv-loop2 μ-loop2 Inv-loop μ-loop
 add-size c = search needs
 
-sub-size : tie.Need-sub-size Inv-loop μ-loop
+sub-size : tie.Need-sub-size Inv-loop2 μ-loop2 Inv-loop μ-loop
 sub-size c = search needs
 
-mul-if4 : tie.Need-mul-if4 Inv-loop μ-loop
+mul-if4 : tie.Need-mul-if4 Inv-loop2 μ-loop2 Inv-loop μ-loop
 mul-if4 c = search needs
 
-shared-slice-read-if4 : tie.Need-shared-slice-read-if4 Inv-loop μ-loop
+shared-slice-read-if4 : tie.Need-shared-slice-read-if4 Inv-loop2 μ-loop2 Inv-loop μ-loop
 shared-slice-read-if4 c = search needs
 
-cast-if4 : tie.Need-cast-if4 Inv-loop μ-loop
-cast-if4 c = omega (arith, c .shared-slice-known4 .given (c .before .before .before .before .before .before .loop .end))
+cast-if4 : tie.Need-cast-if4 Inv-loop2 μ-loop2 Inv-loop μ-loop
+cast-if4 c = omega (arith, c .shared-slice-known6 .given (c .before .before .before .before .before .before .loop2 .end))
 
-returns-3 : tie.Need-returns-3 Inv-loop μ-loop
+returns-3 : tie.Need-returns-3 Inv-loop2 μ-loop2 Inv-loop μ-loop
 returns-3 c =
-    let l = c .before .before .before .before .before .before .before in
-    let b = l .before .before .before in
-    testing-up-wrong (b .pre .0) (b .args .table .now) (l .loop .inv) (omega arith) (omega arith) (λ e. omega (arith, e))
+    let k = c .before .before .before .before .before .before .before in
+    let b = k .before .before .before .before .before .before .before .before in
+    testing-up-wrong (b .pre .0) (b .args .table .now) (k .loop2 .inv .2) (omega arith) (omega arith) (λ e. omega (arith, e))
 
-mul-if5 : tie.Need-mul-if5 Inv-loop μ-loop
+mul-if5 : tie.Need-mul-if5 Inv-loop2 μ-loop2 Inv-loop μ-loop
 mul-if5 c = search needs
 
-shared-slice-read-if5 : tie.Need-shared-slice-read-if5 Inv-loop μ-loop
+shared-slice-read-if5 : tie.Need-shared-slice-read-if5 Inv-loop2 μ-loop2 Inv-loop μ-loop
 shared-slice-read-if5 c = search needs
 
-sub-if5 : tie.Need-sub-if5 Inv-loop μ-loop
+sub-if5 : tie.Need-sub-if5 Inv-loop2 μ-loop2 Inv-loop μ-loop
 sub-if5 c = search needs
 
-mul-if5-2 : tie.Need-mul-if5-2 Inv-loop μ-loop
+mul-if5-2 : tie.Need-mul-if5-2 Inv-loop2 μ-loop2 Inv-loop μ-loop
 mul-if5-2 c = search needs
 
-shared-slice-read-if5-2 : tie.Need-shared-slice-read-if5-2 Inv-loop μ-loop
+shared-slice-read-if5-2 : tie.Need-shared-slice-read-if5-2 Inv-loop2 μ-loop2 Inv-loop μ-loop
 shared-slice-read-if5-2 c = search needs
 
-returns-4 : tie.Need-returns-4 Inv-loop μ-loop
+returns-4 : tie.Need-returns-4 Inv-loop2 μ-loop2 Inv-loop μ-loop
 returns-4 c =
-    let l = c .before .before .before .before .before .before .before .before in
-    let b = l .before .before .before in
-    testing-same-wrong (b .pre .0) (b .args .table .now) (l .loop .inv) (omega arith) (omega arith) (λ e. omega (arith, e))
+    let k = c .before .before .before .before .before .before .before .before in
+    let b = k .before .before .before .before .before .before .before .before in
+    testing-same-wrong (b .pre .0) (b .args .table .now) (k .loop2 .inv .2) (omega arith) (omega arith) (λ e. omega (arith, e))
 
-add-end-2 : tie.Need-add-end-2 Inv-loop μ-loop
+add-end-2 : tie.Need-add-end-2 Inv-loop2 μ-loop2 Inv-loop μ-loop
 add-end-2 c = search needs
 
-loop-less : tie.Need-loop-less Inv-loop μ-loop
-loop-less c = search needs
+loop2-less : tie.Need-loop2-less Inv-loop2 μ-loop2 Inv-loop μ-loop
+loop2-less c = search needs
 
-loop-again : tie.Need-loop-again Inv-loop μ-loop
-loop-again c =
-    let l = c .before .before .before .before .before in
-    let b = l .before .before .before in
-    ⊎-elim (λ w. rw (w .3) (testing-up (b .pre .0) (b .args .table .now) (l .loop .inv) (omega arith) (w .0 .taken) (w .2 .left)))
-    (λ w. rw (w .4) (testing-same (b .pre .0) (b .args .table .now) (l .loop .inv) (omega arith) (omega arith) (w .3 .left))) (c .if3 .came)
+loop2-again : tie.Need-loop2-again Inv-loop2 μ-loop2 Inv-loop μ-loop
+loop2-again c =
+    let k = c .before .before .before .before .before in
+    let b = k .before .before .before .before .before .before .before .before in
+    let q = b .pre .0 in
+    let row = b .args .table .now in
+    let t = k .loop2 .inv .2 in (
+      search needs,
+      search needs,
+      ⊎-elim (λ w. rw (w .3) (testing-up q row t (omega arith) (w .0 .taken) (w .2 .left)))
+          (λ w. rw (w .4) (testing-same q row t (omega arith) (omega arith) (w .3 .left))) (c .if3 .came),
+    )
 
-sub-result-3 : tie.Need-sub-result-3 Inv-loop μ-loop
+test-blocks-requires : tie.Need-test-blocks-requires Inv-loop2 μ-loop2 Inv-loop μ-loop
+test-blocks-requires c κs =
+    let k = c .before in
+    let b = k .before .before .before .before .before .before .before .before in
+    (b .pre .0, b .pre .1, k .loop2 .inv .2)
+
+next-gap-requires : tie.Need-next-gap-requires Inv-loop2 μ-loop2 Inv-loop μ-loop
+next-gap-requires c κs = search needs
+
+loop-less : tie.Need-loop-less Inv-loop2 μ-loop2 Inv-loop μ-loop
+loop-less c =
+    let r = c .before .before .test-blocks .ensures in
+    let k = c .before .before .before .before in
+    omega (arith, k .before .steps .ensures .1 (omega arith), r .0, r .1 .scan .ends)
+
+loop-again : tie.Need-loop-again Inv-loop2 μ-loop2 Inv-loop μ-loop
+loop-again c = (c .next-gap .ensures .0, c .next-gap .ensures .1, c .before .before .test-blocks .ensures .1)
+
+sub-result-3 : tie.Need-sub-result-3 Inv-loop2 μ-loop2 Inv-loop μ-loop
 sub-result-3 c = search needs
 
-rem-result-2 : tie.Need-rem-result-2 Inv-loop μ-loop
+rem-result-2 : tie.Need-rem-result-2 Inv-loop2 μ-loop2 Inv-loop μ-loop
 rem-result-2 c = search needs
 
-sub-result-4 : tie.Need-sub-result-4 Inv-loop μ-loop
+sub-result-4 : tie.Need-sub-result-4 Inv-loop2 μ-loop2 Inv-loop μ-loop
 sub-result-4 c = rest-fits _ _ (omega arith)
 
-returns-5 : tie.Need-returns-5 Inv-loop μ-loop
+returns-5 : tie.Need-returns-5 Inv-loop2 μ-loop2 Inv-loop μ-loop
 returns-5 c =
     let l = c .before in
-    let b = l .before .before .before in
-    tested-from (b .pre .0) (b .args .table .now) (l .loop .inv) (stop-end (l .loop .inv .scan) (omega arith))
+    let b = l .before .before .before .before .before in
+    tested-from (b .pre .0) (b .args .table .now) (l .loop .inv .2) (stop-end (l .loop .inv .2 .scan) (omega arith))
 
 pub test-from-spec : {M : Type 1} → statement M
 test-from-spec =
     tie.close
     (tie.spec
+    Inv-loop2
+    μ-loop2
     Inv-loop
     μ-loop
     mul-if1
@@ -152,6 +199,10 @@ test-from-spec =
     returns
     add-end
     loop-holds
+    sub-steps
+    steps-requires
+    add-stop
+    loop2-holds
     sub-old
     shared-slice-read-old
     shared-slice-read-new
@@ -172,6 +223,10 @@ test-from-spec =
     shared-slice-read-if5-2
     returns-4
     add-end-2
+    loop2-less
+    loop2-again
+    test-blocks-requires
+    next-gap-requires
     loop-less
     loop-again
     sub-result-3

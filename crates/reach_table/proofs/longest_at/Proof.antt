@@ -1,95 +1,141 @@
--- `reach_table::longest_at` meets its contract: the word at i takes in the next word, whose length the table has, while that is greater.
-use Prim.Native.Nat.{_-_}
+-- `reach_table::longest_at` meets its contract: the word takes in the next one while that is greater; where it ends, its slot is written.
+use mathlib.Core.Path.{_≡_, refl, _∙_}
 use lib.ListN.{length}
-use Rattle.reach_table.proofs.Reach.{Grown, grown-start, grown-turn, grown-stop, grown-end, next-some, next-fits}
+use Rattle.scan.proofs.Alike.{not-true, not-false}
+use Rattle.memo.specs.Memo.{Memo}
+use Rattle.reach_table.proofs.Reach.{grown-start, next-some, next-fits, grown-end}
+use Rattle.reach_table.proofs.Merging.{Merging, merging-start, merging-known, merging-place, merging-turn, merging-stop, merging-slot}
+use Prim.Native.Nat.{_+_, _-_, _≤_, _<_}
 use borrow.Author.Needs.{needs}
 use native.Mathlib.Omega.{arith}
 use Rattle.reach_table.proofs.longest_at.Statement.{statement}
 use Rattle.reach_table.proofs.longest_at.Tie as tie
 use Rattle.reach_table.proofs.longest_at.Reads as reads
 use Rattle.reach_table.proofs.longest_at.Lts as lts
-use Rattle.scan.proofs.precedes.Reads as precedes-reads
+use Rattle.reach_table.proofs.beside.Reads as beside-reads
+use Rattle.memo.proofs.best.Reads as best-reads
+use Rattle.memo.proofs.entry.Reads as entry-reads
+use Rattle.memo.proofs.keep.Reads as keep-reads
+use Rattle.memo.proofs.recall.Reads as recall-reads
+use Rattle.scan.proofs.shorter.Reads as shorter-reads
 
 abbrev Inv-loop : tie.InvT-loop
-Inv-loop s table i n m₀ m = Grown s i m
+Inv-loop s table i memo₀ j₀ d₀ edge₀ shared₀ memo j d edge shared = (length memo ≡ length memo₀) × Memo s memo × Merging s i j d edge shared
 
 abbrev μ-loop : tie.MeasureT-loop
-μ-loop s table i n m₀ m = length s - m
+μ-loop s table i memo₀ j₀ d₀ edge₀ shared₀ memo j d edge shared = length s - j
 
-add-m : tie.Need-add-m Inv-loop μ-loop
-add-m c = search needs
+add-j : tie.Need-add-j Inv-loop μ-loop
+add-j c = search needs
 
 loop-holds : tie.Need-loop-holds Inv-loop μ-loop
-loop-holds c = grown-start (c .before .before .args .s .now) (c .before .before .args .i) (search needs)
+loop-holds c =
+    let a = c .before .before .before in
+    (refl, a .pre .2, merging-start (grown-start (a .args .s .now) (a .args .i) (a .pre .0)))
 
-mul-end : tie.Need-mul-end Inv-loop μ-loop
-mul-end c = search needs
+entry-requires : tie.Need-entry-requires Inv-loop μ-loop
+entry-requires c κs = search needs
 
-shared-slice-read-end : tie.Need-shared-slice-read-end Inv-loop μ-loop
-shared-slice-read-end c = search needs
+shorter-requires : tie.Need-shorter-requires Inv-loop μ-loop
+shorter-requires c κs = search needs
 
-cast-end : tie.Need-cast-end Inv-loop μ-loop
-cast-end c = omega (arith, c .shared-slice-known3 .given (c .before .before .loop .m))
-
-add-end : tie.Need-add-end Inv-loop μ-loop
-add-end c =
-    let l = c .before .before in
-    let next = l .before .before .before .pre .2 (l .loop .m) (omega arith) (omega arith) in
-    omega (arith, next-fits (l .loop .inv) _ next (omega arith))
-
-sub-precedes : tie.Need-sub-precedes Inv-loop μ-loop
-sub-precedes c = search needs
-
-part-precedes-start : tie.Need-part-precedes-start Inv-loop μ-loop
-part-precedes-start c = search needs
-
-part-precedes-end : tie.Need-part-precedes-end Inv-loop μ-loop
-part-precedes-end c =
-    let l = c .before .before in
-    let next = l .before .before .before .pre .2 (l .loop .m) (omega arith) (omega arith) in
-    omega (arith, next-fits (l .loop .inv) _ next (omega arith))
-
-sub-precedes-2 : tie.Need-sub-precedes-2 Inv-loop μ-loop
-sub-precedes-2 c = search needs
-
-part-precedes-start-2 : tie.Need-part-precedes-start-2 Inv-loop μ-loop
-part-precedes-start-2 c = search needs
-
-part-precedes-end-2 : tie.Need-part-precedes-end-2 Inv-loop μ-loop
-part-precedes-end-2 c =
+beside-requires : tie.Need-beside-requires Inv-loop μ-loop
+beside-requires c κs =
     let l = c .before .before .before in
-    let next = l .before .before .before .pre .2 (l .loop .m) (omega arith) (omega arith) in
-    omega (arith, next-fits (l .loop .inv) _ next (omega arith))
+    let a = l .before .before .before .before in
+    let m = l .loop .inv .2 in
+    let h = c .before .before .loop-test .taken in
+    let y = c .before .entry in
+    let next = y .ensures ∙ a .pre .1 .right (l .loop .j) (omega (arith, m .grown .some)) h in
+    (m .grown .some, next-some (m .grown) (y .result) next h, next-fits (m .grown) (y .result) next h, merging-known m (c .shorter .result) (c .shorter .ensures .0) (c .shorter .ensures .1))
 
-precedes-requires : tie.Need-precedes-requires Inv-loop μ-loop
-precedes-requires c κs = search needs
+best-requires : tie.Need-best-requires Inv-loop μ-loop
+best-requires c κs = search needs
+
+keep-requires : tie.Need-keep-requires Inv-loop μ-loop
+keep-requires c κs =
+    let l = c .before .before .before .before .before .before .before .before in
+    let a = l .before .before .before .before in
+    let m = l .loop .inv .2 in
+    let h = c .before .before .before .before .before .before .before .loop-test .taken in
+    let y = c .before .before .before .before .before .before .entry in
+    let next = y .ensures ∙ a .pre .1 .right (l .loop .j) (omega (arith, m .grown .some)) h in
+    let w = c .before .before .before .before .beside in
+    let up = not-true (w .result .up) (c .before .before .if1 .taken) in
+    (l .loop .inv .1, omega (arith, m .grown .some, h), merging-slot m (y .result) (w .result .e) (w .result .up) (w .ensures) next h up (c .best .result) (c .best .ensures))
 
 sub-result : tie.Need-sub-result Inv-loop μ-loop
 sub-result c = search needs
 
+same-length : tie.Need-same-length Inv-loop μ-loop
+same-length c = c .before .before .keep .kept .1 .0 ∙ c .before .before .before .before .before .before .before .before .before .before .before .loop .inv .0
+
 returns : tie.Need-returns Inv-loop μ-loop
 returns c =
-    let l = c .before .before .before .before .before .before in
-    let next = l .before .before .before .pre .2 (l .loop .m) (omega arith) (omega arith) in
-    grown-stop (l .loop .inv) _ next (omega arith) (c .before .precedes .result) (c .before .precedes .ensures) (c .if1 .taken)
+    let l = c .before .before .before .before .before .before .before .before .before .before .before in
+    let a = l .before .before .before .before in
+    let m = l .loop .inv .2 in
+    let h = c .before .before .before .before .before .before .before .before .before .before .loop-test .taken in
+    let y = c .before .before .before .before .before .before .before .before .before .entry in
+    let next = y .ensures ∙ a .pre .1 .right (l .loop .j) (omega (arith, m .grown .some)) h in
+    let w = c .before .before .before .before .before .before .before .beside in
+    let up = not-true (w .result .up) (c .before .before .before .before .before .if1 .taken) in
+    record { entry = merging-stop m (y .result) (w .result .e) (w .result .up) (w .ensures) next h up; remains = c .before .before .keep .ensures }
+
+sub-d : tie.Need-sub-d Inv-loop μ-loop
+sub-d c = search needs
+
+recall-requires : tie.Need-recall-requires Inv-loop μ-loop
+recall-requires c κs =
+    let l = c .before .before .before .before .before .before .before in
+    let a = l .before .before .before .before in
+    let m = l .loop .inv .2 in
+    let h = c .before .before .before .before .before .before .loop-test .taken in
+    let y = c .before .before .before .before .before .entry in
+    let next = y .ensures ∙ a .pre .1 .right (l .loop .j) (omega (arith, m .grown .some)) h in
+    let w = c .before .before .before .beside in
+    (l .loop .inv .1, omega (arith, m .grown .some, h), merging-place m (y .result) (w .result .e) (w .result .up) (w .ensures) (omega (arith, m .grown .some, h)))
+
+add-j-2 : tie.Need-add-j-2 Inv-loop μ-loop
+add-j-2 c =
+    let l = c .before .before .before .before .before .before .before .before in
+    let a = l .before .before .before .before in
+    let m = l .loop .inv .2 in
+    let h = c .before .before .before .before .before .before .before .loop-test .taken in
+    let y = c .before .before .before .before .before .before .entry in
+    let next = y .ensures ∙ a .pre .1 .right (l .loop .j) (omega (arith, m .grown .some)) h in
+    omega (arith, next-fits (m .grown) (y .result) next h)
 
 loop-less : tie.Need-loop-less Inv-loop μ-loop
 loop-less c =
-    let l = c .before .before .before .before .before .before in
-    let next = l .before .before .before .pre .2 (l .loop .m) (omega arith) (omega arith) in
-    omega (arith, next-some (l .loop .inv) _ next (omega arith))
+    let l = c .before .before .before .before .before .before .before .before in
+    let a = l .before .before .before .before in
+    let m = l .loop .inv .2 in
+    let h = c .before .before .before .before .before .before .before .loop-test .taken in
+    let y = c .before .before .before .before .before .before .entry in
+    let next = y .ensures ∙ a .pre .1 .right (l .loop .j) (omega (arith, m .grown .some)) h in
+    omega (arith, h, next-some (m .grown) (y .result) next h)
 
 loop-again : tie.Need-loop-again Inv-loop μ-loop
 loop-again c =
-    let l = c .before .before .before .before .before .before in
-    let next = l .before .before .before .pre .2 (l .loop .m) (omega arith) (omega arith) in
-    grown-turn (l .loop .inv) _ next (omega arith) (c .before .precedes .result) (c .before .precedes .ensures) (c .if1 .left)
+    let l = c .before .before .before .before .before .before .before .before in
+    let a = l .before .before .before .before in
+    let m = l .loop .inv .2 in
+    let h = c .before .before .before .before .before .before .before .loop-test .taken in
+    let y = c .before .before .before .before .before .before .entry in
+    let next = y .ensures ∙ a .pre .1 .right (l .loop .j) (omega (arith, m .grown .some)) h in
+    let w = c .before .before .before .before .beside in
+    let up = not-false (w .result .up) (c .before .before .if1 .left) in
+    (l .loop .inv .0, l .loop .inv .1, merging-turn m (y .result) (w .result .e) (w .result .up) (w .ensures) next h up (c .recall .result .edge) (c .recall .result .shared) (c .recall .ensures))
 
 sub-result-2 : tie.Need-sub-result-2 Inv-loop μ-loop
 sub-result-2 c = search needs
 
+same-length-2 : tie.Need-same-length-2 Inv-loop μ-loop
+same-length-2 c = c .before .loop .inv .0
+
 returns-2 : tie.Need-returns-2 Inv-loop μ-loop
-returns-2 c = grown-end (c .before .loop .inv) (omega arith)
+returns-2 c = record { entry = grown-end (c .before .loop .inv .2 .grown) (omega arith); remains = c .before .loop .inv .1 }
 
 pub longest-at-spec : {M : Type 1} → statement M
 longest-at-spec =
@@ -97,22 +143,21 @@ longest-at-spec =
     (tie.spec
     Inv-loop
     μ-loop
-    add-m
+    add-j
     loop-holds
-    mul-end
-    shared-slice-read-end
-    cast-end
-    add-end
-    sub-precedes
-    part-precedes-start
-    part-precedes-end
-    sub-precedes-2
-    part-precedes-start-2
-    part-precedes-end-2
-    precedes-requires
+    entry-requires
+    shorter-requires
+    beside-requires
+    best-requires
+    keep-requires
     sub-result
+    same-length
     returns
+    sub-d
+    recall-requires
+    add-j-2
     loop-less
     loop-again
     sub-result-2
+    same-length-2
     returns-2)

@@ -1,60 +1,64 @@
--- `seams::plan` meets its contract: the ends and the start that its calls find are those of the plan.
-use Rattle.seams.proofs.Meets.{starts-within, edited-short, first-start-asks, plan-old, plan-new}
-use borrow.Author.Needs.{needs}
+-- `seams::plan` meets its contract: what the stored table and the pass tell are the seams and what stands between them.
+use Rattle.seams.proofs.Meets.{starts-within, edited-short, survey-asks, planned-old, planned-new}
 use native.Mathlib.Omega.{arith}
+use borrow.Author.Needs.{needs}
 use Rattle.seams.proofs.plan.Statement.{statement}
 use Rattle.seams.proofs.plan.Tie as tie
 use Rattle.seams.proofs.plan.Reads as reads
 use Rattle.seams.proofs.plan.Lts as lts
-use Rattle.cuts.proofs.first_start.Reads as first-start-reads
-use Rattle.cuts.proofs.scanned_ends.Reads as scanned-ends-reads
 use Rattle.cuts.proofs.stored_ends.Reads as stored-ends-reads
+use Rattle.seams.proofs.groups_between.Reads as groups-between-reads
+use Rattle.seams.proofs.survey.Reads as survey-reads
 
 stored-ends-requires : tie.Need-stored-ends-requires
 stored-ends-requires c κs = search needs
 
-scanned-ends-requires : tie.Need-scanned-ends-requires
-scanned-ends-requires c κs = search needs
-
 add-q : tie.Need-add-q
 add-q c = search needs
 
-first-start-requires : tie.Need-first-start-requires
-first-start-requires c κs = first-start-asks (c .before .before .before .before .before .before .pre) (c .scanned-ends .ensures)
+survey-requires : tie.Need-survey-requires
+survey-requires c κs = survey-asks (c .before .before .before .before .before .pre)
 
 sub-resume : tie.Need-sub-resume
 sub-resume c = search needs
 
 add-resume : tie.Need-add-resume
 add-resume c =
-    let s = c .before .before .before .before .before .before .before in
-    omega (arith, starts-within (s .args .t .now) (c .first-start .ensures), edited-short (s .pre), s .pre .stretch, s .pre .pattern)
+    let s = c .before .before .before .before .before .before .before .before in
+    omega (arith, starts-within (s .args .t .now) (c .before .before .survey .ensures .next), edited-short (s .pre), s .pre .stretch, s .pre .pattern)
+
+groups-between-requires : tie.Need-groups-between-requires
+groups-between-requires c κs =
+    let v = c .before .before .before .before .before in
+    omega (arith, v .survey .ensures .few .0, edited-short (v .before .before .before .before .before .before .pre))
 
 returns : tie.Need-returns
 returns c =
-    let start = c .before .before .before in
-    let new = start .before in
-    let old = new .before in
-    let s = old .before .before .before .before .before in
-    plan-old (s .pre) (old .stored-ends .ensures) (new .scanned-ends .ensures) (start .first-start .ensures) (c .if1 .taken)
+    let v = c .before .before .before .before .before .before in
+    let s = v .before .before .before .before .before .before in
+    planned-old (s .pre) (v .before .stored-ends .ensures) (v .survey .ensures) (search needs) (c .groups-between .ensures)
+
+groups-between-requires-2 : tie.Need-groups-between-requires-2
+groups-between-requires-2 c κs =
+    let v = c .before .before .before .before .before in
+    omega (arith, v .survey .ensures .few .1, edited-short (v .before .before .before .before .before .before .pre))
 
 returns-2 : tie.Need-returns-2
 returns-2 c =
-    let start = c .before .before .before in
-    let new = start .before in
-    let old = new .before in
-    let s = old .before .before .before .before .before in
-    plan-new (s .pre) (old .stored-ends .ensures) (new .scanned-ends .ensures) (start .first-start .ensures) (c .if1 .left)
+    let v = c .before .before .before .before .before .before in
+    let s = v .before .before .before .before .before .before in
+    planned-new (s .pre) (v .before .stored-ends .ensures) (v .survey .ensures) (search needs) (c .groups-between2 .ensures)
 
 pub plan-spec : {M : Type 1} → statement M
 plan-spec =
     tie.close
     (tie.spec
     stored-ends-requires
-    scanned-ends-requires
     add-q
-    first-start-requires
+    survey-requires
     sub-resume
     add-resume
+    groups-between-requires
     returns
+    groups-between-requires-2
     returns-2)

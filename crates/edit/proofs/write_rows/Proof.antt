@@ -1,0 +1,94 @@
+-- `edit::write_rows` meets its contract: the groups of the middle, and the starts as one run or in three parts.
+use Rattle.longest.proofs.Writes.{run-written}
+use Rattle.edit.proofs.Rows.{front-is, middle-is, groups-asks, first-asks, middle-asks, last-asks, parts-written}
+use borrow.Author.Needs.{needs}
+use Rattle.edit.proofs.write_rows.Statement.{statement}
+use Rattle.edit.proofs.write_rows.Tie as tie
+use Rattle.edit.proofs.write_rows.Reads as reads
+use Rattle.edit.proofs.write_rows.Lts as lts
+use Rattle.edit.proofs.write_middle.Reads as write-middle-reads
+use Rattle.factoring.proofs.fill_groups.Reads as fill-groups-reads
+use Rattle.longest.proofs.write_run.Reads as write-run-reads
+use Rattle.longest.proofs.write_starts.Reads as write-starts-reads
+
+slice-aggregate-fill-groups : tie.Need-slice-aggregate-fill-groups
+slice-aggregate-fill-groups c = middle-is (c .before .before .before .before .before .before .pre .0)
+
+fill-groups-requires : tie.Need-fill-groups-requires
+fill-groups-requires c κs =
+    let s = c .before .before .before .before .before .before .before in
+    groups-asks (s .pre .0) (s .pre .2) (s .pre .3)
+
+write-run-requires : tie.Need-write-run-requires
+write-run-requires c κs = search needs
+
+same-length : tie.Need-same-length
+same-length c = search needs
+
+same-length-2 : tie.Need-same-length-2
+same-length-2 c = search needs
+
+returns : tie.Need-returns
+returns c =
+    let s = c .before .before .before .before .before .before .before .before .before .before .before .before .before .before in
+    let a = s .args in
+    (c .before .before .before .before .before .before .fill-groups .ensures .1, run-written (a .t .now) (s .pre .1) (a .starts .now) (search needs) (c .before .before .write-run .ensures .1))
+
+slice-aggregate-write-starts : tie.Need-slice-aggregate-write-starts
+slice-aggregate-write-starts c = front-is (c .before .before .before .before .before .before .pre .0)
+
+write-starts-requires : tie.Need-write-starts-requires
+write-starts-requires c κs =
+    let s = c .before .before .before .before .before .before .before in
+    first-asks (s .pre .0) (s .pre .1) (s .pre .2) (s .args .starts .now) (s .pre .4)
+
+slice-aggregate-write-middle : tie.Need-slice-aggregate-write-middle
+slice-aggregate-write-middle c = middle-is (c .before .before .before .before .before .before .before .before .before .before .before .pre .0)
+
+write-middle-requires : tie.Need-write-middle-requires
+write-middle-requires c κs =
+    let s = c .before .before .before .before .before .before .before .before .before .before .before .before .before in
+    let first = c .before .before .before .before .before .write-starts .ensures in
+    middle-asks (s .pre .0) (s .pre .1) (s .pre .2) (s .args .starts .now) (s .pre .4) (first .0) (first .1) (s .pre .3)
+
+write-starts-requires-2 : tie.Need-write-starts-requires-2
+write-starts-requires-2 c κs =
+    let s = c .before .before .before .before .before .before .before .before .before .before .before .before .before .before .before .before .before .before .before in
+    let first = c .before .before .before .before .before .before .before .before .before .before .before .write-starts .ensures in
+    let middle = c .before .before .before .before .before .write-middle .ensures in
+    last-asks (s .pre .0) (s .pre .1) (s .pre .2) (s .args .starts .now) (s .pre .4) (first .0) (first .1) (middle .next) (middle .places)
+
+same-length-3 : tie.Need-same-length-3
+same-length-3 c = search needs
+
+same-length-4 : tie.Need-same-length-4
+same-length-4 c = search needs
+
+returns-2 : tie.Need-returns-2
+returns-2 c =
+    let s = c .before .before .before .before .before .before .before .before .before .before .before .before .before .before .before .before .before .before .before .before .before .before in
+    let first = c .before .before .before .before .before .before .before .before .before .before .before .before .before .before .write-starts .ensures in
+    let middle = c .before .before .before .before .before .before .before .before .write-middle .ensures in (
+      middle .groups,
+      parts-written (s .pre .0) (s .pre .1) (s .pre .2) (s .args .starts .now) (s .pre .4) (first .0) (first .1) (middle .next) (middle .places)
+          (c .before .before .write-starts2 .ensures .1),
+    )
+
+pub write-rows-spec : {M : Type 1} → statement M
+write-rows-spec =
+    tie.close
+    (tie.spec
+    slice-aggregate-fill-groups
+    fill-groups-requires
+    write-run-requires
+    same-length
+    same-length-2
+    returns
+    slice-aggregate-write-starts
+    write-starts-requires
+    slice-aggregate-write-middle
+    write-middle-requires
+    write-starts-requires-2
+    same-length-3
+    same-length-4
+    returns-2)
