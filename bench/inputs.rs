@@ -1,15 +1,19 @@
 //! The inputs of the benchmark: the ten families of tests/compare/families.rs at two lengths, the same with both tables, for the edits, the reach
-//! tables of short ones, and beginnings of one of them, with their blocks or with a byte changed. What is timed on them is main.rs's concern.
+//! tables of short ones, and beginnings of one of them, as they are, with their blocks or with a byte changed. What is timed on them is main.rs's
+//! concern.
 use crate::engine::Given;
 use crate::families::{A, B, families};
 use crate::plain;
 use crate::plain_wanted;
 use crate::tally::Random;
 
-/// The longest pattern, and the longest of before, with their names.
+/// A length with its name.
+type Size = (&'static str, usize);
+
+/// The longest pattern, and a quarter of it.
 pub const SIZE: usize = 16_384;
 const QUARTER: usize = 4096;
-pub const SIZES: [(&str, usize); 2] = [("4,096 bytes", QUARTER), ("16,384 bytes", SIZE)];
+pub const SIZES: [Size; 2] = [("4,096 bytes", QUARTER), ("16,384 bytes", SIZE)];
 const SEED: u64 = 20_261_115;
 /// The bytes of all words of a random family, as many for each length: a single word would be learnt by heart, as a processor does after some
 /// hundred passes over the same 4,096 bytes.
@@ -20,7 +24,7 @@ const BLOCK: &[u8] = &[B, A, A, A, B, A, B, B];
 /// Where an edit starts in a pattern of a length.
 pub type Place = fn(usize) -> usize;
 pub const START: Place = |_| 0;
-pub const MIDDLE: Place = |n| n / 2;
+pub const MIDDLE: Place = |n| (n / 2).min(n - BLOCK.len());
 pub const END: Place = |n| n - BLOCK.len();
 
 /// A name and its words.
@@ -98,20 +102,32 @@ impl Pair {
     }
 }
 
-/// What is copied or compared does not matter, but how much: beginnings of the longest Fibonacci word.
-fn beginnings<I>(input: fn(&[u8]) -> I) -> Vec<Family<I>> {
+const SHORTEST: Size = ("13 bytes", 13);
+const SIXTEEN: Size = ("16 bytes", 16);
+const MEDIUM: Size = ("256 bytes", 256);
+/// The lengths of two strings that are below 24 bytes.
+pub const UNDER_24: &[&str] = &[SHORTEST.0, SIXTEEN.0];
+
+/// Beginnings of the longest Fibonacci word.
+fn beginnings<I>(sizes: &[Size], input: fn(&[u8]) -> I) -> Vec<Family<I>> {
     let longest = words(SIZE);
     let word = first(&longest, "Fibonacci");
-    let sizes = [("13 bytes", 13), ("256 bytes", 256), SIZES[0], SIZES[1]];
-    sizes.map(|(name, size)| (name, vec![input(&word[..size])])).into()
+    sizes.iter().map(|&(name, size)| (name, vec![input(&word[..size])])).collect()
 }
 
+/// Short patterns.
+pub fn short() -> Vec<Family<Vec<u8>>> {
+    beginnings(&[SHORTEST, ("64 bytes", 64), MEDIUM], <[u8]>::to_vec)
+}
+
+/// What is copied does not matter, but how much.
 pub fn framed() -> Vec<Family<Framed>> {
-    beginnings(Framed::new)
+    beginnings(&[SHORTEST, MEDIUM, SIZES[0], SIZES[1]], Framed::new)
 }
 
+/// What is compared does not matter either.
 pub fn pairs() -> Vec<Family<Pair>> {
-    beginnings(Pair::new)
+    beginnings(&[SHORTEST, SIXTEEN, ("24 bytes", 24), ("32 bytes", 32), MEDIUM, SIZES[0], SIZES[1]], Pair::new)
 }
 
 /// The first word of a family.

@@ -1,5 +1,5 @@
-//! The same algorithms as one writes them in safe Rust: what the engine is measured against. They refuse nothing; an index out of range panics.
-//! None is inlined into its caller, as the engine's are not, so that a tool finds them by name.
+//! The textbook's algorithms as one writes them in safe Rust, byte by byte. They refuse nothing; an index out of range panics.
+//! None that is called is inlined into its caller, as the engine's are not, so that a tool finds them by name.
 #![forbid(unsafe_code)]
 use crate::inputs::SIZE;
 
@@ -17,8 +17,9 @@ fn group(s: &[u8], i: usize) -> (usize, usize) {
     (j - k, (j - i) / (j - k))
 }
 
-/// Start, factor length and power of each group from i on.
-pub fn groups(s: &[u8], mut i: usize) -> impl Iterator<Item = (usize, usize, usize)> {
+/// Start, factor length and power of each group.
+fn groups(s: &[u8]) -> impl Iterator<Item = (usize, usize, usize)> {
+    let mut i = 0;
     std::iter::from_fn(move || {
         (i < s.len()).then(|| {
             let start = i;
@@ -33,7 +34,7 @@ pub fn groups(s: &[u8], mut i: usize) -> impl Iterator<Item = (usize, usize, usi
 #[inline(never)]
 pub fn factor(s: &[u8], row: &mut [u16]) -> usize {
     let mut count = 0;
-    for (start, length, power) in groups(s, 0) {
+    for (start, length, power) in groups(s) {
         row[3 * count..3 * count + 3].copy_from_slice(&[start as u16, length as u16, power as u16]);
         count += 1;
     }
@@ -41,7 +42,7 @@ pub fn factor(s: &[u8], row: &mut [u16]) -> usize {
 }
 
 /// Whether a is smaller than b, compared byte by byte.
-pub fn precedes(a: &[u8], b: &[u8]) -> bool {
+fn precedes(a: &[u8], b: &[u8]) -> bool {
     for (x, y) in a.iter().zip(b) {
         if x != y {
             return x < y;
@@ -50,31 +51,31 @@ pub fn precedes(a: &[u8], b: &[u8]) -> bool {
     a.len() < b.len()
 }
 
-/// Lyndon words merged from the right while the left one is smaller, compared byte by byte.
+/// Entry i of the reach table, where the entries behind it are right: the word at i merged with the next one while it is smaller.
+fn reach(s: &[u8], table: &[u16], i: usize) -> usize {
+    let mut m = i + 1;
+    while m < s.len() {
+        let end = m + usize::from(table[m]);
+        if !precedes(&s[i..m], &s[m..end]) {
+            break;
+        }
+        m = end;
+    }
+    m - i
+}
+
+/// Lyndon words merged from the right.
 #[inline(never)]
 pub fn array(s: &[u8], table: &mut [u16]) -> usize {
-    merge(s, table, precedes)
-}
-
-/// The same, compared by `<` of slices, which calls memcmp.
-#[inline(never)]
-pub fn array_by_memcmp(s: &[u8], table: &mut [u16]) -> usize {
-    merge(s, table, |a, b| a < b)
-}
-
-fn merge(s: &[u8], table: &mut [u16], less: impl Fn(&[u8], &[u8]) -> bool) -> usize {
     for i in (0..s.len()).rev() {
-        let mut m = i + 1;
-        while m < s.len() {
-            let end = m + usize::from(table[m]);
-            if !less(&s[i..m], &s[m..end]) {
-                break;
-            }
-            m = end;
-        }
-        table[i] = (m - i) as u16;
+        table[i] = reach(s, table, i) as u16;
     }
     s.len()
+}
+
+/// Whether it is the reach table; an entry to the left is looked at once those to its right are found right.
+pub fn is_array(s: &[u8], table: &[u16]) -> bool {
+    (0..s.len()).rev().all(|i| usize::from(table[i]) == reach(s, table, i))
 }
 
 /// Duval's scan with the length of the last factor at each place.
@@ -108,6 +109,6 @@ pub fn least_rotation(s: &[u8]) -> Option<usize> {
     let mut buffer = [0; 2 * SIZE];
     buffer[..n].copy_from_slice(s);
     buffer[n..2 * n].copy_from_slice(s);
-    let found = groups(&buffer[..2 * n], 0).find(|(start, length, power)| n <= start + length * power);
+    let found = groups(&buffer[..2 * n]).find(|(start, length, power)| n <= start + length * power);
     found.map_or(Some(0), |(start, length, _)| (length == n).then_some(start))
 }

@@ -1,5 +1,5 @@
-//! Two strings compared as one writes it in safe Rust. `compare` goes byte by byte, as the engine does; `compare_by_chunks` takes sixteen at a time
-//! while they are equal. Both refuse what the engine does, without a number, and are not inlined, so that a tool finds them by name.
+//! Two strings compared as one writes it in safe Rust. `compare_by_chunks` takes sixteen bytes at a time while they are equal; `compare` goes byte
+//! by byte. Both refuse what the engine does, without a number, and are not inlined, so that a tool finds them by name.
 #![forbid(unsafe_code)]
 use crate::inputs::SIZE;
 use std::cmp::Ordering;
@@ -7,11 +7,12 @@ use std::cmp::Ordering;
 const CHUNK: usize = 16;
 
 /// The length of the common beginning.
-pub fn shared(a: &[u8], b: &[u8]) -> usize {
+fn shared(a: &[u8], b: &[u8]) -> usize {
     a.iter().zip(b).take_while(|(x, y)| x == y).count()
 }
 
-fn shared_by_chunks(a: &[u8], b: &[u8]) -> usize {
+/// The same, sixteen bytes at a time while they are equal.
+pub fn shared_by_chunks(a: &[u8], b: &[u8]) -> usize {
     let (chunks, others) = (a.as_chunks::<CHUNK>().0, b.as_chunks::<CHUNK>().0);
     let equal = CHUNK * chunks.iter().zip(others).take_while(|(x, y)| x == y).count();
     equal + shared(&a[equal..], &b[equal..])

@@ -1,25 +1,12 @@
-//! The steps of an edit as one writes them in safe Rust: both tables tested, the edited pattern spliced, its factors scanned, both rows written.
-//! `edit` scans as often as the engine; `scanned_once` scans once and keeps the groups, and `trusting` leaves out the tests too.
+//! The steps of an edit as one writes them in safe Rust: both tables tested, the edited pattern spliced, its factors scanned once by machine words
+//! and kept, both rows written. `edit` tests the reach table with a memo, `edit_short` by merging alone, and `trusting` tests neither table.
 //! They refuse wrong tables and short rows before they write; the other refusals are left to the engine.
 #![forbid(unsafe_code)]
 use crate::engine::{EditAnswer, Given, Group};
-use crate::inputs::SIZE;
-use crate::plain::{groups, precedes};
+use crate::plain;
+use crate::plain_memo;
+use crate::plain_words::groups;
 use std::cmp::Ordering;
-
-fn is_array(s: &[u8], table: &[u16]) -> bool {
-    (0..s.len()).rev().all(|i| {
-        let mut m = i + 1;
-        while m < s.len() {
-            let end = m + usize::from(table[m]);
-            if !precedes(&s[i..m], &s[m..end]) {
-                break;
-            }
-            m = end;
-        }
-        usize::from(table[i]) == m - i
-    })
-}
 
 fn is_last_factors(s: &[u8], table: &[u16]) -> bool {
     let mut i = 0;
@@ -80,20 +67,6 @@ fn refused(refusal: u8) -> EditAnswer {
     EditAnswer { refusal, kept: 0, resume: 0, groups: 0, length: 0, starts: 0 }
 }
 
-fn has_tables(e: &Given) -> bool {
-    is_array(e.pattern, e.array) && is_last_factors(e.pattern, e.last)
-}
-
-/// The edited pattern, at the front of the buffer.
-fn splice<'a>(e: &Given, buffer: &'a mut [u8; SIZE]) -> &'a [u8] {
-    let q = e.from + e.block.len();
-    let size = q + e.pattern.len() - e.to;
-    buffer[..e.from].copy_from_slice(&e.pattern[..e.from]);
-    buffer[e.from..q].copy_from_slice(e.block);
-    buffer[q..size].copy_from_slice(&e.pattern[e.to..]);
-    &buffer[..size]
-}
-
 /// The length of the longest factors, and how many there are.
 fn longest(groups: impl Iterator<Item = Span>) -> (usize, usize) {
     groups.fold((0, 0), |(length, count), (_, size, power)| match size.cmp(&length) {
@@ -116,42 +89,18 @@ fn record((start, length, power): Span) -> Group {
     Group { start: start as u16, length: length as u16, power: power as u16 }
 }
 
-#[inline(never)]
-pub fn edit(e: &Given, middle: &mut [Group], starts: &mut [u16]) -> EditAnswer {
-    if !has_tables(e) {
-        return refused(5);
-    }
-    let buffer = &mut [0; SIZE];
-    let t = splice(e, buffer);
-    let q = e.from + e.block.len();
-    let fresh = ends(groups(t, 0), e.from);
-    let place = first_start(groups(t, fresh.1), q, t.len());
-    let (kept, end) = stored_ends(e.array, e.from).min(fresh);
-    let count = groups(&t[..place], end).count();
-    let (length, times) = longest(groups(t, 0));
-    if middle.len() < count || starts.len() < times {
-        return refused(8);
-    }
-    for (out, group) in middle.iter_mut().zip(groups(&t[..place], end)) {
-        *out = record(group);
-    }
-    put_starts(groups(t, 0), length, starts);
-    EditAnswer { refusal: 0, kept, resume: e.to + (place - q), groups: count, length, starts: times }
-}
-
 /// The part of a group that lies between two ends of factors.
 fn clipped((start, length, power): Span, from: usize, to: usize) -> Option<Span> {
     let (first, end) = (start.max(from), to.min(start + length * power));
     (first < end).then(|| (first, length, (end - first) / length))
 }
 
-/// One scan of the edited pattern, whose groups are kept; the tables are not tested.
+/// Believes both tables.
 #[inline(never)]
 pub fn trusting(e: &Given, middle: &mut [Group], starts: &mut [u16]) -> EditAnswer {
-    let buffer = &mut [0; SIZE];
-    let t = splice(e, buffer);
+    let t = [&e.pattern[..e.from], e.block, &e.pattern[e.to..]].concat();
     let q = e.from + e.block.len();
-    let all: Vec<Span> = groups(t, 0).collect();
+    let all: Vec<Span> = groups(&t).collect();
     let all = || all.iter().copied();
     let fresh = ends(all(), e.from);
     let place = first_start(all(), q, t.len());
@@ -169,8 +118,14 @@ pub fn trusting(e: &Given, middle: &mut [Group], starts: &mut [u16]) -> EditAnsw
     EditAnswer { refusal: 0, kept, resume: e.to + (place - q), groups: count, length, starts: times }
 }
 
-/// The same behind the test of both tables.
 #[inline(never)]
-pub fn scanned_once(e: &Given, middle: &mut [Group], starts: &mut [u16]) -> EditAnswer {
-    if has_tables(e) { trusting(e, middle, starts) } else { refused(5) }
+pub fn edit(e: &Given, middle: &mut [Group], starts: &mut [u16]) -> EditAnswer {
+    let right = plain_memo::is_array(e.pattern, e.array) && is_last_factors(e.pattern, e.last);
+    if right { trusting(e, middle, starts) } else { refused(5) }
+}
+
+#[inline(never)]
+pub fn edit_short(e: &Given, middle: &mut [Group], starts: &mut [u16]) -> EditAnswer {
+    let right = plain::is_array(e.pattern, e.array) && is_last_factors(e.pattern, e.last);
+    if right { trusting(e, middle, starts) } else { refused(5) }
 }

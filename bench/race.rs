@@ -2,7 +2,7 @@
 //! The least time of all passes counts: other work on the machine comes and goes. The tables are table.rs's concern.
 use crate::engine::Group;
 use crate::inputs::{Family, SIZE};
-use crate::table::Times;
+use crate::table::{Target, Times};
 use std::fmt::Debug;
 use std::hint::black_box;
 use std::time::{Duration, Instant};
@@ -34,8 +34,7 @@ pub struct Contest<I, O> {
     pub name: &'static str,
     pub engine: Call<I, O>,
     pub plain: Call<I, O>,
-    /// The largest ratio wanted.
-    pub target: f64,
+    pub target: Target,
 }
 
 fn outcome<I, O>(call: Call<I, O>, input: &I) -> (O, Rows) {

@@ -18,6 +18,25 @@ impl Times {
     }
 }
 
+/// The largest ratio wanted, and of which families; of all of them where none is named.
+#[derive(Clone, Copy)]
+pub struct Target {
+    pub most: f64,
+    pub families: &'static [&'static str],
+}
+
+impl Target {
+    pub const NONE: Target = Target::everywhere(f64::INFINITY);
+
+    pub const fn everywhere(most: f64) -> Target {
+        Target { most, families: &[] }
+    }
+
+    fn is_missed(&self, family: &str, ratio: f64) -> bool {
+        ratio > self.most && (self.families.is_empty() || self.families.contains(&family))
+    }
+}
+
 /// By size, family and contest.
 pub struct Least(HashMap<[String; 3], Times>);
 
@@ -46,21 +65,28 @@ fn head<'a>(title: &str, names: impl Iterator<Item = &'a str>) {
     println!("| {title} | {} |\n|---{}|", names.join(" | "), "|---".repeat(names.len()));
 }
 
-/// Prints a row for each family; a contest is a name and the largest ratio wanted.
-pub fn print(size: &str, contests: &[(&str, f64)], families: &[&str], least: &Least) {
+/// Prints a row for each family; a contest is a name and its target.
+pub fn print(size: &str, contests: &[(&str, Target)], families: &[&str], least: &Least) {
     head(&format!("{size}: engine / Rust, ns"), contests.iter().map(|c| c.0));
     let mut over = 0;
     for family in families {
         print!("| {family} |");
         for &(name, target) in contests {
             let Times { engine, plain } = least.times(size, family, name);
-            let is_over = engine / plain > target;
+            let is_over = target.is_missed(family, engine / plain);
             over += usize::from(is_over);
             print!(" {engine:.0} / {plain:.0} = {:.2}{} |", engine / plain, if is_over { " (over)" } else { "" });
         }
         println!();
     }
     println!("\nresults equal on all inputs; {over} over their target\n");
+}
+
+/// Prints how many times as long as another family the engine takes on one, beside the most wanted.
+pub fn beside(size: &str, contest: &str, [family, other]: [&str; 2], most: f64, least: &Least) {
+    let [ours, others] = [family, other].map(|f| least.times(size, f, contest).engine);
+    let verdict = if ours / others > most { "over" } else { "within" };
+    println!("{contest}, {size}: {family} takes {:.2} times as long as {other}, {verdict} {most:.1}\n", ours / others);
 }
 
 /// Prints by how much the time of a byte grows: that of the second size by that of the first, of the engine and of Rust. A size is its name and

@@ -39,21 +39,33 @@ fn rows<T: Entry + Debug>(t: &mut Tally, name: &str, w: &[u8], want: Want<T>, ca
     }
 }
 
+/// The same, also with rows about a length that has room for the result of any pattern as long as this one.
+fn rows_to<T: Entry + Debug>(t: &mut Tally, name: &str, w: &[u8], room: usize, want: Want<T>, call: impl Fn(&[u8], &mut [T]) -> Answer) {
+    for length in [room.saturating_sub(1), room, room + 1] {
+        one(t, name, w, length, &want, &call);
+    }
+    rows(t, name, w, want, call);
+}
+
 /// The pattern as a definite length block.
 pub fn write_block(t: &mut Tally, w: &[u8]) {
     let block = block_oracle::written(w);
     rows(t, "write_block", w, Want::new(pattern_holds(w.len()), [block.len(), 0], &block), engine::write_block);
 }
 
+pub fn array(t: &mut Tally, w: &[u8], f: &Facts) {
+    rows(t, "lyndon_array", w, Want::new(pattern_holds(w.len()), [w.len(), 0], &f.array), engine::array);
+}
+
 /// The calls that write a row and need no table.
 fn writing(t: &mut Tally, w: &[u8], f: &Facts) {
     let n = w.len();
     let holds = pattern_holds(n);
-    rows(t, "factor", w, Want::new(holds, [f.groups.len(), 0], &flat(&f.groups)), engine::factor);
-    rows(t, "lyndon_array", w, Want::new(holds, [n, 0], &f.array), engine::array);
+    rows_to(t, "factor", w, 3 * n, Want::new(holds, [f.groups.len(), 0], &flat(&f.groups)), engine::factor);
+    array(t, w, f);
     rows(t, "last_factors", w, Want::new(holds, [n, 0], &f.last), engine::last_factors);
     rows(t, "longest_words", w, Want::new(holds, [f.length, f.starts.len()], &f.starts), engine::longest_words);
-    rows(t, "write_listing", w, Want::new(holds, [f.listing.len(), 0], &f.listing), engine::write_listing);
+    rows_to(t, "write_listing", w, 32 + 20 * n, Want::new(holds, [f.listing.len(), 0], &f.listing), engine::write_listing);
     write_block(t, w);
     rows(t, "tree", w, Want::new(tree_holds(n, f.lyndon), [f.nodes.len() / 2, 0], &f.nodes), engine::tree);
 }

@@ -73,7 +73,7 @@ fn changed_at(w: &[u8], place: usize) -> [Vec<u8>; 4] {
 
 /// A first difference at each place, before an equal ending and before one that is larger or smaller at each byte; and the string cut there.
 pub fn places(t: &mut Tally, r: &mut Random) {
-    for n in [1, 2, 15, 16, 17, 31, 33, 70] {
+    for n in [1, 2, 15, 16, 17, 31, 32, 33, 47, 48, 49, 63, 64, 65, 70] {
         let w = random_of(r, n);
         for place in 0..n {
             naive_pair(t, &w, &w[..place]);
@@ -84,6 +84,27 @@ pub fn places(t: &mut Tally, r: &mut Random) {
                     naive_pair(t, &w, &[&changed[..place + 1], &vec![ending; n - place - 1]].concat());
                 }
             }
+        }
+    }
+}
+
+/// A common beginning of each length to 70 and about larger ones, and behind it nothing, or a byte that differs from the other string's and endings
+/// of lengths about sixteen and its double.
+pub fn beginnings(t: &mut Tally, r: &mut Random) {
+    let longer = [79, 80, 81, 127, 128, 129, 255, 256, 257];
+    let endings: [Option<usize>; 8] = [None, Some(0), Some(1), Some(14), Some(15), Some(16), Some(17), Some(32)];
+    for shared in (0..=70).chain(longer) {
+        let beginning = random_of(r, shared);
+        let ended = |r: &mut Random, first: u8, ending: Option<usize>| match ending {
+            None => beginning.clone(),
+            Some(more) => [&beginning[..], &[first], &random_of(r, more)].concat(),
+        };
+        for (a, b) in endings.iter().flat_map(|&a| endings.map(|b| (a, b))) {
+            let [below, above] = [[0x7F, 0x80], [0, 0xFF], [0x61, 0x62]][r.below(3)];
+            let (first, second) = (ended(r, below, a), ended(r, above, b));
+            t.equal(&oracle::compared(&first, &second)[0], &shared, || format!("a common beginning of {shared} bytes"));
+            naive_pair(t, &first, &second);
+            naive_pair(t, &ended(r, above, a), &ended(r, below, b));
         }
     }
 }

@@ -16,9 +16,11 @@ mod long;
 mod loops;
 mod oracle;
 mod orders;
+mod periods;
 mod right;
 mod sheet;
 mod short;
+mod steps;
 mod tables;
 mod tally;
 mod wanted;
@@ -58,6 +60,25 @@ fn words(run: &mut Run, r: &mut Random) {
     });
 }
 
+/// Steps of several bytes, and periods inside periods.
+fn steps_and_periods(run: &mut Run, r: &mut Random) {
+    run.part("ten families of 2 to 67 bytes and of about larger multiples of sixteen", |t| steps::lengths(t, r));
+    run.part("words repeated for about sixteen, 32 or 48 bytes, then a smaller byte, a greater one or the end", |t| {
+        steps::agreements(t, r)
+    });
+    run.part("bytes above the first for about sixteen to 80, then the same, a smaller one or the end", |t| steps::stretches(t, r));
+    run.part("the same byte or a smaller one at each place of bytes above it", |t| steps::broken_stretches(t, r));
+    run.part("runs of a letter in a word that begins with six to ten of it", |t| steps::runs(t, r));
+    run.part("a stretch or a repetition behind up to 140 bytes that have neither", |t| steps::behind_openings(t, r, 8_000));
+    run.part("reach tables of a^m b a^m b to m = 2,000, a byte changed, between others", |t| periods::two_runs(t, r));
+    run.part("reach tables of words whose periods meet modulo 128", |t| periods::same_places(t, r));
+    run.part("reach tables of periods inside periods, to 2,000 bytes", |t| periods::nested_periods(t, r, 6_000));
+    run.part("reach tables of one letter or a few behind the same word, again and again", |t| periods::spaced_letters(t, r, 4_000));
+    run.part("reach tables of eight families to 2,300 bytes, a byte changed", |t| periods::changed_families(t, r, 100));
+    run.part("reach tables of a^n b to the longest", |t| periods::one_run(t, r));
+    run.part("periodic words of 4,096 bytes to the longest", |t| periods::long(t, r));
+}
+
 /// Lent and wanted tables, two strings, and the refusals.
 fn tables_and_refusals(run: &mut Run, r: &mut Random) {
     run.part("tables with one entry changed or missing, two letters to length 6", |t| tables::wrong(t, TWO, 6));
@@ -73,6 +94,9 @@ fn tables_and_refusals(run: &mut Run, r: &mut Random) {
     run.part("every two words over two letters to length 7, compared", |t| comparisons::short(t, TWO, 7));
     run.part("every two words over three letters to length 5, compared", |t| comparisons::short(t, THREE, 5));
     run.part("words to 70 bytes that differ at each place, compared", |t| comparisons::places(t, r));
+    run.part("a common beginning of each length to 70 and about larger ones, endings of many lengths, compared", |t| {
+        comparisons::beginnings(t, r)
+    });
     run.part("random pairs with a common beginning of any length, compared", |t| comparisons::random(t, r, 4_000));
     run.part("ten families of about the longest length, compared with beginnings and with a byte changed", |t| comparisons::long(t, r));
     run.part("the edge of each refusal", |t| edges::all(t, r));
@@ -104,6 +128,7 @@ fn main() -> ExitCode {
     let r = &mut Random::new(seed);
     let mut run = Run::default();
     words(&mut run, r);
+    steps_and_periods(&mut run, r);
     tables_and_refusals(&mut run, r);
     texts(&mut run, r);
     if run.finish() { ExitCode::SUCCESS } else { ExitCode::FAILURE }

@@ -7,7 +7,7 @@ pub const TREE_LIMIT: usize = 256;
 pub const WANTED_LIMIT: usize = 256;
 
 /// What there is to say of a pattern.
-#[derive(Clone, Debug, PartialEq)]
+#[derive(Clone, Debug, Default, PartialEq)]
 pub struct Facts {
     pub groups: Vec<Group>,
     pub array: Vec<u16>,

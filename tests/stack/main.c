@@ -95,7 +95,8 @@ static void run_edit(void) {
 }
 
 /* A function: the longest string, the most bytes that it may touch, and the most that the longest string may add to those of a short one.
- * Only the tree calls itself: at most once for each letter, with up to 128 bytes. */
+ * Only the tree calls itself: at most once for each letter, with up to 176 bytes. A reach table, made or tested, has room for a memo of 2,048
+ * bytes, and an edit for a copy of the edited pattern. */
 typedef struct {
     const char *name;
     void (*run)(void);
@@ -104,16 +105,16 @@ typedef struct {
 
 static const row rows[] = {
     { "lyndon_factor", run_factor, N, 1024, 0 },
-    { "lyndon_array", run_array, N, 1024, 0 },
+    { "lyndon_array", run_array, N, 3072, 128 },
     { "lyndon_last_factors", run_last_factors, N, 1024, 0 },
     { "lyndon_realise_array", run_realise_array, LYNDON_MAX_WANTED, 1024, 0 },
     { "lyndon_longest_words", run_longest_words, N, 1024, 0 },
     { "lyndon_longest_word", run_longest_word, N, 1024, 0 },
     { "lyndon_is_lyndon", run_is_lyndon, N, 1024, 0 },
-    { "lyndon_least_rotation", run_least_rotation, N, 36864, 0 },
-    { "lyndon_tree", run_tree, LYNDON_MAX_TREE, 32768, 24576 },
+    { "lyndon_least_rotation", run_least_rotation, N, 1024, 0 },
+    { "lyndon_tree", run_tree, LYNDON_MAX_TREE, 49152, 36864 },
     { "lyndon_factor_prefix", run_prefix, N, 1024, 0 },
-    { "lyndon_factor_suffix", run_suffix, N, 1024, 0 },
+    { "lyndon_factor_suffix", run_suffix, N, 3072, 128 },
     { "lyndon_compare", run_compare, N, 1024, 0 },
     { "lyndon_write_listing", run_listing, N, 1024, 0 },
     { "lyndon_read_block", run_read_block, N, 1024, 0 },
