@@ -54,7 +54,8 @@ extern "C" {
 #define LYNDON_NO_PATTERN 12        /* no pattern of bytes has the wanted Lyndon array */
 
 /* The groups of equal neighbouring factors: start, length of one factor, power. Sets *count to the number of groups.
- * Row: 3 entries a group; 3 * pattern_len are always enough. Refusals 1, 8. */
+ * Row: 3 entries a group; 3 * pattern_len are always enough, and with so many the pattern is scanned once: in a shorter row the groups are
+ * counted first. Refusals 1, 8. */
 uint8_t lyndon_factor(const uint8_t *pattern, size_t pattern_len, uint16_t *groups, size_t groups_len, size_t *count);
 
 /* The Lyndon array: entry i is the length of the longest Lyndon word that starts at i. Sets *count to pattern_len.
@@ -71,7 +72,8 @@ uint8_t lyndon_last_factors(const uint8_t *pattern, size_t pattern_len, uint16_t
 uint8_t lyndon_realise_array(const uint16_t *wanted, size_t wanted_len, uint8_t *pattern, size_t pattern_len, size_t *count);
 
 /* The starts of all longest Lyndon words in the pattern. Sets *size to their length and *count to the number of starts.
- * Row: an entry for each start; pattern_len are always enough. Refusals 1, 8. */
+ * Row: an entry for each start; pattern_len are always enough. Where all longest words are equal neighbours the pattern is scanned once, in a
+ * row of any length, and else twice. Refusals 1, 8. */
 uint8_t lyndon_longest_words(const uint8_t *pattern, size_t pattern_len, uint16_t *starts, size_t starts_len, size_t *size, size_t *count);
 
 /* Sets *start to where the first of the longest Lyndon words stands in the pattern, and *size to its length. Both are 0 where the pattern is
@@ -106,7 +108,8 @@ uint8_t lyndon_compare(const uint8_t *first, size_t first_len, const uint8_t *se
 /* The listing of the pattern's groups as CSV: `start,length,power,word,shared`, then a line for each group, with the factor's bytes in
  * upper-case hexadecimal and the length of the longest string that this factor and that of the next group both begin with, 0 on the last
  * line; carriage return and line feed close each line, and no zero byte is added. Sets *count to the number of bytes.
- * Row: a byte for each of the listing's; LYNDON_MAX_LISTING are always enough. Refusals 1, 8. */
+ * Row: a byte for each of the listing's; 32 + 20 * pattern_len are always enough, LYNDON_MAX_LISTING for every pattern. With 32 + 20 *
+ * pattern_len the pattern is scanned once: in a shorter row the listing is measured first. Refusals 1, 8. */
 uint8_t lyndon_write_listing(const uint8_t *pattern, size_t pattern_len, uint8_t *text, size_t text_len, size_t *count);
 
 /* Where the bytes of a definite length block of IEEE 488.2 are: sets *place to the place of the first within the block and *count to their
@@ -140,7 +143,8 @@ typedef struct lyndon_edit_answer {
 /* The answer to an edit: the bytes from `from` up to `to` are taken out and the block is put in. Both tables are the stored pattern's;
  * the starts of the groups and of the longest words are places in the edited one. Refusals 1, 2, 3, 4, 5, 8.
  * Row `middle`: a record for each group; (binary digits of `from`) + block_len + 1 are always enough, 0 having no digit, and so are
- * LYNDON_MAX_MIDDLE. Row `starts`: an entry for each start; as many as the edited pattern has bytes are always enough. */
+ * LYNDON_MAX_MIDDLE. Row `starts`: an entry for each start; as many as the edited pattern has bytes are always enough. The edited pattern is
+ * scanned at most twice, in rows of any length. */
 lyndon_edit_answer lyndon_edit(const uint8_t *pattern, size_t pattern_len, const uint16_t *lyndon_array, size_t lyndon_array_len,
                                const uint16_t *last_factors, size_t last_factors_len, size_t from, size_t to,
                                const uint8_t *block, size_t block_len, lyndon_group *middle, size_t middle_len,
