@@ -2,6 +2,7 @@
 //! by byte. Both refuse what the engine does, without a number, and are not inlined, so that a tool finds them by name.
 #![forbid(unsafe_code)]
 use crate::inputs::SIZE;
+use crate::order::{Order, Ranks};
 use std::cmp::Ordering;
 
 const CHUNK: usize = 16;
@@ -19,12 +20,13 @@ pub fn shared_by_chunks(a: &[u8], b: &[u8]) -> usize {
 }
 
 /// The common beginning, and which is smaller: 1 the first, 2 the second, 0 neither. What ends there is smaller than what goes on.
-fn told(first: &[u8], second: &[u8], shared: impl Fn(&[u8], &[u8]) -> usize) -> Option<[usize; 2]> {
+fn told<O: Order>(first: &[u8], second: &[u8], ranks: &Ranks, shared: impl Fn(&[u8], &[u8]) -> usize) -> Option<[usize; 2]> {
     if first.len() > SIZE || second.len() > SIZE {
         return None;
     }
     let n = shared(first, second);
-    let smaller = match first.get(n).cmp(&second.get(n)) {
+    let rank = |s: &[u8]| s.get(n).map(|&byte| O::rank(ranks, byte));
+    let smaller = match rank(first).cmp(&rank(second)) {
         Ordering::Equal => 0,
         Ordering::Less => 1,
         Ordering::Greater => 2,
@@ -33,11 +35,11 @@ fn told(first: &[u8], second: &[u8], shared: impl Fn(&[u8], &[u8]) -> usize) -> 
 }
 
 #[inline(never)]
-pub fn compare(first: &[u8], second: &[u8]) -> Option<[usize; 2]> {
-    told(first, second, shared)
+pub fn compare<O: Order>(first: &[u8], second: &[u8], ranks: &Ranks) -> Option<[usize; 2]> {
+    told::<O>(first, second, ranks, shared)
 }
 
 #[inline(never)]
-pub fn compare_by_chunks(first: &[u8], second: &[u8]) -> Option<[usize; 2]> {
-    told(first, second, shared_by_chunks)
+pub fn compare_by_chunks<O: Order>(first: &[u8], second: &[u8], ranks: &Ranks) -> Option<[usize; 2]> {
+    told::<O>(first, second, ranks, shared_by_chunks)
 }

@@ -3,18 +3,19 @@
 //! They refuse wrong tables and short rows before they write; the other refusals are left to the engine.
 #![forbid(unsafe_code)]
 use crate::engine::{EditAnswer, Given, Group};
+use crate::order::{Order, Ranks};
 use crate::plain;
 use crate::plain_memo;
 use crate::plain_words::groups;
 use std::cmp::Ordering;
 
-fn is_last_factors(s: &[u8], table: &[u16]) -> bool {
+fn is_last_factors<O: Order>(s: &[u8], ranks: &Ranks, table: &[u16]) -> bool {
     let mut i = 0;
     while i < s.len() {
         let (mut j, mut k) = (i + 1, i);
         let mut right = table[i] == 1;
-        while right && j < s.len() && s[k] <= s[j] {
-            if s[k] < s[j] {
+        while right && j < s.len() && O::at_most(ranks, s[k], s[j]) {
+            if s[k] != s[j] {
                 k = i;
                 right = usize::from(table[j]) == j + 1 - i;
             } else {
@@ -95,12 +96,17 @@ fn clipped((start, length, power): Span, from: usize, to: usize) -> Option<Span>
     (first < end).then(|| (first, length, (end - first) / length))
 }
 
+/// The ranks that an edit is given.
+fn ranks<'a>(e: &Given<'a>) -> &'a Ranks {
+    e.order.try_into().expect("256 ranks")
+}
+
 /// Believes both tables.
 #[inline(never)]
-pub fn trusting(e: &Given, middle: &mut [Group], starts: &mut [u16]) -> EditAnswer {
+pub fn trusting<O: Order>(e: &Given, middle: &mut [Group], starts: &mut [u16]) -> EditAnswer {
     let t = [&e.pattern[..e.from], e.block, &e.pattern[e.to..]].concat();
     let q = e.from + e.block.len();
-    let all: Vec<Span> = groups(&t).collect();
+    let all: Vec<Span> = groups::<O>(&t, ranks(e)).collect();
     let all = || all.iter().copied();
     let fresh = ends(all(), e.from);
     let place = first_start(all(), q, t.len());
@@ -119,13 +125,13 @@ pub fn trusting(e: &Given, middle: &mut [Group], starts: &mut [u16]) -> EditAnsw
 }
 
 #[inline(never)]
-pub fn edit(e: &Given, middle: &mut [Group], starts: &mut [u16]) -> EditAnswer {
-    let right = plain_memo::is_array(e.pattern, e.array) && is_last_factors(e.pattern, e.last);
-    if right { trusting(e, middle, starts) } else { refused(5) }
+pub fn edit<O: Order>(e: &Given, middle: &mut [Group], starts: &mut [u16]) -> EditAnswer {
+    let right = plain_memo::is_array::<O>(e.pattern, ranks(e), e.array) && is_last_factors::<O>(e.pattern, ranks(e), e.last);
+    if right { trusting::<O>(e, middle, starts) } else { refused(5) }
 }
 
 #[inline(never)]
-pub fn edit_short(e: &Given, middle: &mut [Group], starts: &mut [u16]) -> EditAnswer {
-    let right = plain::is_array(e.pattern, e.array) && is_last_factors(e.pattern, e.last);
-    if right { trusting(e, middle, starts) } else { refused(5) }
+pub fn edit_short<O: Order>(e: &Given, middle: &mut [Group], starts: &mut [u16]) -> EditAnswer {
+    let right = plain::is_array::<O>(e.pattern, ranks(e), e.array) && is_last_factors::<O>(e.pattern, ranks(e), e.last);
+    if right { trusting::<O>(e, middle, starts) } else { refused(5) }
 }

@@ -1,6 +1,7 @@
 //! The reach table as one writes it in safe Rust where periodic patterns shall not take a square of their length: words merged from the right, with
 //! a memo of agreements already seen, two rows of slots by place. The same step makes the table and tests one.
 #![forbid(unsafe_code)]
+use crate::order::{Order, Ranks};
 
 /// Slots in a row of the memo: the square of it is the longest pattern for which the time is bounded; the result wants nothing of it.
 const SIDE: usize = 128;
@@ -61,11 +62,11 @@ fn agreeing(s: &[u8], i: usize, j: usize, from: usize, most: usize) -> usize {
 
 /// Entry i, where the entries behind it are right.
 #[inline(always)]
-fn reach(s: &[u8], table: &[u16], i: usize, memo: &mut Memo) -> usize {
+fn reach<O: Order>(s: &[u8], ranks: &Ranks, table: &[u16], i: usize, memo: &mut Memo) -> usize {
     let n = s.len();
     let first = s[i];
     let mut j = i + 1;
-    while j < n && first < s[j] {
+    while j < n && O::below(ranks, first, s[j]) {
         j += usize::from(table[j]);
     }
     if n <= j || s[j] != first {
@@ -76,7 +77,7 @@ fn reach(s: &[u8], table: &[u16], i: usize, memo: &mut Memo) -> usize {
         let length = usize::from(table[j]);
         let most = length.min(j - i);
         let e = agreeing(s, i, j, agreed.min(most), most);
-        let ends = if e < most { s[j + e] < s[i + e] } else { length <= most };
+        let ends = if e < most { O::below(ranks, s[j + e], s[i + e]) } else { length <= most };
         if ends {
             memo.keep(i, d, e, &known);
             return j - i;
@@ -90,16 +91,16 @@ fn reach(s: &[u8], table: &[u16], i: usize, memo: &mut Memo) -> usize {
 }
 
 #[inline(never)]
-pub fn array(s: &[u8], table: &mut [u16]) -> usize {
+pub fn array<O: Order>(s: &[u8], ranks: &Ranks, table: &mut [u16]) -> usize {
     let mut memo = Memo::EMPTY;
     for i in (0..s.len()).rev() {
-        table[i] = reach(s, table, i, &mut memo) as u16;
+        table[i] = reach::<O>(s, ranks, table, i, &mut memo) as u16;
     }
     s.len()
 }
 
 /// Whether it is the reach table; an entry to the left is looked at once those to its right are found right.
-pub fn is_array(s: &[u8], table: &[u16]) -> bool {
+pub fn is_array<O: Order>(s: &[u8], ranks: &Ranks, table: &[u16]) -> bool {
     let mut memo = Memo::EMPTY;
-    (0..s.len()).rev().all(|i| usize::from(table[i]) == reach(s, table, i, &mut memo))
+    (0..s.len()).rev().all(|i| usize::from(table[i]) == reach::<O>(s, ranks, table, i, &mut memo))
 }

@@ -1,7 +1,8 @@
-//! The listing of a pattern as one writes it in safe Rust into a lent buffer, without formatting macros: one pass by machine words, with a table of
-//! 256 pairs of digits. It finds each group once and keeps it until the next one is found, with which its word is compared, and panics where the
-//! buffer is short.
+//! The listing of a pattern as one writes it in safe Rust into a lent buffer, without formatting macros: one pass by machine words, the
+//! digits of a byte off a table of 256 pairs or, as the engine reads them, off a list of sixteen. It finds each group once and keeps it until the
+//! next one is found, with which its word is compared, and panics where the buffer is short.
 #![forbid(unsafe_code)]
+use crate::order::{Order, Ranks};
 use crate::plain_compare::shared_by_chunks;
 use crate::plain_words::groups;
 
@@ -54,17 +55,18 @@ impl Writer<'_> {
         self.bytes(b",");
     }
 
-    fn hexadecimal(&mut self, word: &[u8]) {
+    #[inline(always)]
+    fn hexadecimal(&mut self, word: &[u8], digits: impl Fn(u8) -> [u8; 2]) {
         let (pairs, _) = self.next(2 * word.len()).as_chunks_mut();
         for (pair, &b) in pairs.iter_mut().zip(word) {
-            *pair = PAIRS[usize::from(b)];
+            *pair = digits(b);
         }
     }
 }
 
 /// The numbers of each line: start, length, power, shared.
-fn lines(s: &[u8]) -> impl Iterator<Item = [usize; 4]> {
-    let mut groups = groups(s).peekable();
+fn lines<O: Order>(s: &[u8], ranks: &Ranks) -> impl Iterator<Item = [usize; 4]> {
+    let mut groups = groups::<O>(s, ranks).peekable();
     std::iter::from_fn(move || {
         let (start, length, power) = groups.next()?;
         let common = |&(next, size, _): &(usize, usize, usize)| shared_by_chunks(&s[start..start + length], &s[next..next + size]);
@@ -73,18 +75,30 @@ fn lines(s: &[u8]) -> impl Iterator<Item = [usize; 4]> {
 }
 
 /// Writes the listing and answers its length.
-#[inline(never)]
-pub fn listing(s: &[u8], text: &mut [u8]) -> usize {
+#[inline(always)]
+fn write<O: Order>(s: &[u8], ranks: &Ranks, text: &mut [u8], digits: impl Fn(u8) -> [u8; 2]) -> usize {
     let mut out = Writer { text, at: 0 };
     out.bytes(HEADER);
-    for [start, length, power, shared] in lines(s) {
+    for [start, length, power, shared] in lines::<O>(s, ranks) {
         out.field(start);
         out.field(length);
         out.field(power);
-        out.hexadecimal(&s[start..start + length]);
+        out.hexadecimal(&s[start..start + length], &digits);
         out.bytes(b",");
         out.number(shared);
         out.bytes(b"\r\n");
     }
     out.at
+}
+
+/// With the table of 256 pairs.
+#[inline(never)]
+pub fn listing<O: Order>(s: &[u8], ranks: &Ranks, text: &mut [u8]) -> usize {
+    write::<O>(s, ranks, text, |b| PAIRS[usize::from(b)])
+}
+
+/// With the list of sixteen digits.
+#[inline(never)]
+pub fn listing_by_digits<O: Order>(s: &[u8], ranks: &Ranks, text: &mut [u8]) -> usize {
+    write::<O>(s, ranks, text, |b| [b / 16, b % 16].map(|digit| DIGITS[usize::from(digit)]))
 }

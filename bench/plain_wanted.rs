@@ -1,6 +1,7 @@
 //! A pattern for a wanted reach table as one writes it in safe Rust, by the same steps: what the engine is measured against.
 //! It refuses what the engine does, without a number. It is not inlined into its caller, as the engine's is not.
 #![forbid(unsafe_code)]
+use crate::order::{Order, Ranks};
 
 /// The longest wanted table.
 pub const LIMIT: usize = 256;
@@ -23,9 +24,9 @@ fn nests(table: &[u16]) -> bool {
     true
 }
 
-/// Each place gets the number of earlier ones whose stretch ends where its own does, and above that one more than the symbol there.
+/// As ranks, each place gets the number of earlier ones whose stretch ends where its own does, and above that one more than the symbol there.
 #[inline(never)]
-pub fn realise(table: &[u16], pattern: &mut [u8]) -> Option<usize> {
+pub fn realise<O: Order>(table: &[u16], ranks: &Ranks, pattern: &mut [u8]) -> Option<usize> {
     let n = table.len();
     if n > LIMIT || !nests(table) || pattern.len() < n {
         return None;
@@ -40,5 +41,6 @@ pub fn realise(table: &[u16], pattern: &mut [u8]) -> Option<usize> {
         let above = if end < n { pattern[end] + 1 } else { 0 };
         pattern[start] = above + ends[end] as u8;
     }
+    O::spell(ranks, &mut pattern[..n]);
     Some(n)
 }

@@ -44,7 +44,7 @@ static void short_strings(void) {
 static void written_and_read(bytes w) {
     uint8_t block[LYNDON_MAX_DEFINITE_BLOCK];
     size_t size = naive_block(w, block), count = 0;
-    check(fills_any_row(BLOCK, w, (told){ 0, { size, 0 } }, (result){ block, size }), "lyndon_write_block of %zu bytes", w.n);
+    check(fills_any_row(BLOCK, w, NO_ORDER, (told){ 0, { size, 0 } }, (result){ block, size }), "lyndon_write_block of %zu bytes", w.n);
     memset(block, 0, sizeof block);
     uint8_t refusal = lyndon_write_block(w.at, w.n, block, sizeof block, &count);
     bool good = refusal == 0 && count <= sizeof block && reads_block((bytes){ block, count }, (told){ 0, { count - w.n, w.n } });

@@ -42,6 +42,7 @@ typedef struct {
 /* What an edit is given. */
 typedef struct {
     bytes pattern;
+    bytes order;
     table array;
     table last;
     size_t from;
@@ -56,26 +57,34 @@ typedef struct {
     const uint16_t *starts;
 } edited;
 
-/* A function that writes one row of `room` entries. */
-bool fills(filling call, bytes w, size_t room, told want, result r);
+/* Whether both archives tell this number. */
+bool tells_interface(uint32_t number);
+
+bool writes_byte_order(size_t room, told want, result r);
+
+/* The order of a function that gets none. */
+#define NO_ORDER ((bytes){ NULL, 0 })
+
+/* A function that writes one row of `room` entries; lyndon_write_block gets no order. */
+bool fills(filling call, bytes w, bytes order, size_t room, told want, result r);
 
 /* The same with an exact row, longer ones and, where there is a result, rows too short, which are refused by 8. */
-bool fills_any_row(filling call, bytes w, told want, result r);
+bool fills_any_row(filling call, bytes w, bytes order, told want, result r);
 
-bool tells_lyndon(bytes w, uint8_t refusal, bool yes);
-bool tells_rotation(bytes w, uint8_t refusal, size_t start);
-bool tells_longest_word(bytes w, size_t start, size_t size);
+bool tells_lyndon(bytes w, bytes order, uint8_t refusal, bool yes);
+bool tells_rotation(bytes w, bytes order, uint8_t refusal, size_t start);
+bool tells_longest_word(bytes w, bytes order, size_t start, size_t size);
 
 /* The numbers are the length of the common beginning, and 1 or 2 for the smaller string, 0 for equal ones. */
-bool compares(bytes first, bytes second, told want);
+bool compares(bytes first, bytes second, bytes order, told want);
 
 /* The numbers are the place and the count of the bytes within the block. */
 bool reads_block(bytes block, told want);
 
 /* The pattern that is written goes to `pattern` too, since which one it is is left free; the bytes behind it are looked at here. */
-bool realises(table wanted, size_t room, told want, uint8_t *pattern);
+bool realises(table wanted, bytes order, size_t room, told want, uint8_t *pattern);
 
-bool takes_part(side s, bytes w, table t, size_t position, size_t room, told want, result r);
+bool takes_part(side s, bytes w, bytes order, table t, size_t position, size_t room, told want, result r);
 
 /* With rows of these lengths, in records and in starts. */
 bool answers_edit(const given *g, size_t middle_room, size_t starts_room, const edited *want);

@@ -4,29 +4,30 @@
 #include <stdio.h>
 #include <string.h>
 
-bytes word_of(uint8_t *at, size_t n, size_t number) {
-    for (size_t k = 0; k < n; k++) at[k] = number >> (n - 1 - k) & 1 ? 0x80 : 0x7F;
-    return (bytes){ at, n };
-}
-
 static bytes slice(bytes w, size_t from, size_t to) {
     return (bytes){ w.at + from, to - from };
 }
 
-/* The smaller has the smaller byte at the first difference; a proper prefix is smaller. */
-static bool smaller(bytes a, bytes b) {
+/* Entry b of an order is the rank of byte b. */
+static uint8_t rank(bytes order, uint8_t b) {
+    return order.at[b];
+}
+
+/* The smaller has the smaller rank at the first difference; a proper prefix is smaller. */
+static bool smaller(bytes a, bytes b, bytes order) {
     for (size_t k = 0; k < a.n && k < b.n; k++) {
-        if (a.at[k] != b.at[k]) return a.at[k] < b.at[k];
+        if (a.at[k] != b.at[k]) return rank(order, a.at[k]) < rank(order, b.at[k]);
     }
     return a.n < b.n;
 }
 
-size_t naive_smaller(bytes first, bytes second) {
-    return smaller(first, second) ? 1 : smaller(second, first) ? 2 : 0;
+size_t naive_smaller(bytes first, bytes second, bytes order) {
+    return smaller(first, second, order) ? 1 : smaller(second, first, order) ? 2 : 0;
 }
 
+/* The same bytes. */
 static bool same(bytes a, bytes b) {
-    return naive_smaller(a, b) == 0;
+    return a.n == b.n && memcmp(a.at, b.at, a.n) == 0;
 }
 
 size_t naive_shared(bytes first, bytes second) {
@@ -36,26 +37,26 @@ size_t naive_shared(bytes first, bytes second) {
 }
 
 /* Nonempty, and smaller than each of its nonempty proper suffixes. */
-static bool is_lyndon(bytes w) {
+static bool is_lyndon(bytes w, bytes order) {
     for (size_t k = 1; k < w.n; k++) {
-        if (!smaller(w, slice(w, k, w.n))) return false;
+        if (!smaller(w, slice(w, k, w.n), order)) return false;
     }
     return w.n > 0;
 }
 
 /* The length of the longest Lyndon word that starts at i. */
-static size_t longest_at(bytes w, size_t i) {
+static size_t longest_at(bytes w, bytes order, size_t i) {
     size_t end = w.n;
-    while (!is_lyndon(slice(w, i, end))) end--;
+    while (!is_lyndon(slice(w, i, end), order)) end--;
     return end - i;
 }
 
 /* The bounds of the factors, from 0 to the length; answers the number of factors. */
-static size_t factors(bytes w, size_t *bound) {
+static size_t factors(bytes w, bytes order, size_t *bound) {
     size_t count = 0;
     bound[0] = 0;
     while (bound[count] < w.n) {
-        bound[count + 1] = bound[count] + longest_at(w, bound[count]);
+        bound[count + 1] = bound[count] + longest_at(w, order, bound[count]);
         count++;
     }
     return count;
@@ -78,30 +79,30 @@ static size_t grouped(bytes w, const size_t *bound, size_t factor_count, size_t 
     return count;
 }
 
-size_t naive_groups(bytes w, size_t place, uint16_t *group) {
+size_t naive_groups(bytes w, bytes order, size_t place, uint16_t *group) {
     size_t bound[SHORT + 1];
-    size_t count = factors(w, bound);
+    size_t count = factors(w, order, bound);
     return grouped(w, bound, count, place, group);
 }
 
-static void longest_words(bytes w, size_t *length, size_t *starts, uint16_t *start) {
+static void longest_words(bytes w, bytes order, size_t *length, size_t *starts, uint16_t *start) {
     *starts = 0;
     for (*length = w.n; *length > 0; (*length)--) {
         for (size_t i = 0; i + *length <= w.n; i++) {
-            if (is_lyndon(slice(w, i, i + *length))) start[(*starts)++] = (uint16_t)i;
+            if (is_lyndon(slice(w, i, i + *length), order)) start[(*starts)++] = (uint16_t)i;
         }
         if (*starts > 0) return;
     }
 }
 
 /* The smallest start of a rotation that no other is smaller than. */
-static size_t rotation(bytes w) {
+static size_t rotation(bytes w, bytes order) {
     uint8_t twice[2 * SHORT];
     memcpy(twice, w.at, w.n);
     memcpy(twice + w.n, w.at, w.n);
     size_t best = 0;
     for (size_t k = 1; k < w.n; k++) {
-        if (smaller((bytes){ twice + k, w.n }, (bytes){ twice + best, w.n })) best = k;
+        if (smaller((bytes){ twice + k, w.n }, (bytes){ twice + best, w.n }, order)) best = k;
     }
     return best;
 }
@@ -117,30 +118,30 @@ static bool repeated(bytes w) {
 }
 
 /* Parent, all of u, all of v, where v is the longest proper suffix that is a Lyndon word; answers the number of nodes. */
-static size_t tree(bytes w, size_t place, uint16_t *node) {
+static size_t tree(bytes w, bytes order, size_t place, uint16_t *node) {
     node[0] = (uint16_t)place;
     node[1] = (uint16_t)w.n;
     if (w.n == 1) return 1;
     size_t cut = 1;
-    while (!is_lyndon(slice(w, cut, w.n))) cut++;
-    size_t left = tree(slice(w, 0, cut), place, node + 2);
-    return 1 + left + tree(slice(w, cut, w.n), place + cut, node + 2 + 2 * left);
+    while (!is_lyndon(slice(w, cut, w.n), order)) cut++;
+    size_t left = tree(slice(w, 0, cut), order, place, node + 2);
+    return 1 + left + tree(slice(w, cut, w.n), order, place + cut, node + 2 + 2 * left);
 }
 
-facts naive_facts(bytes w) {
+facts naive_facts(bytes w, bytes order) {
     facts f = { .groups = 0 };
     size_t bound[SHORT + 1];
-    f.groups = naive_groups(w, 0, f.group);
+    f.groups = naive_groups(w, order, 0, f.group);
     for (size_t i = 0; i < w.n; i++) {
-        f.array[i] = (uint16_t)longest_at(w, i);
-        size_t count = factors(slice(w, 0, i + 1), bound);
+        f.array[i] = (uint16_t)longest_at(w, order, i);
+        size_t count = factors(slice(w, 0, i + 1), order, bound);
         f.last[i] = (uint16_t)(bound[count] - bound[count - 1]);
     }
-    longest_words(w, &f.length, &f.starts, f.start);
-    f.rotation = rotation(w);
+    longest_words(w, order, &f.length, &f.starts, f.start);
+    f.rotation = rotation(w, order);
     f.repeated = repeated(w);
-    f.lyndon = is_lyndon(w);
-    if (f.lyndon) f.nodes = tree(w, 0, f.node);
+    f.lyndon = is_lyndon(w, order);
+    if (f.lyndon) f.nodes = tree(w, order, 0, f.node);
     return f;
 }
 
@@ -197,7 +198,7 @@ static size_t kept_of(bytes w, const size_t *old, size_t olds, bytes edited, con
     return c;
 }
 
-naive_edited naive_edit(bytes w, size_t from, size_t to, bytes block) {
+naive_edited naive_edit(bytes w, bytes order, size_t from, size_t to, bytes block) {
     naive_edited e = { .told = { .refusal = 0 } };
     uint8_t content[SHORT];
     memcpy(content, w.at, from);
@@ -205,7 +206,7 @@ naive_edited naive_edit(bytes w, size_t from, size_t to, bytes block) {
     memcpy(content + from + block.n, w.at + to, w.n - to);
     bytes edited = { content, from + block.n + w.n - to };
     size_t old[SHORT + 1], new[SHORT + 1];
-    size_t olds = factors(w, old), news = factors(edited, new);
+    size_t olds = factors(w, order, old), news = factors(edited, order, new);
     size_t kept = kept_of(w, old, olds, edited, new, news, from);
     /* the first bound at or behind the block's end; the end of the edited pattern is one */
     size_t until = kept;
@@ -213,6 +214,6 @@ naive_edited naive_edit(bytes w, size_t from, size_t to, bytes block) {
     e.told.kept = kept;
     e.told.resume = new[until] - (from + block.n) + to;
     e.told.groups = grouped(edited, new + kept, until - kept, 0, e.middle);
-    longest_words(edited, &e.told.length, &e.told.starts, e.start);
+    longest_words(edited, order, &e.told.length, &e.told.starts, e.start);
     return e;
 }

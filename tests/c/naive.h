@@ -1,26 +1,19 @@
-/* The definitions for short strings, tried out one by one: slow, and right at sight.
- * Nothing here knows how the engine works; results of up to 64 bytes fit. */
+/* The definitions for short strings under any order, tried out one by one: slow, and right at sight.
+ * Nothing here knows how the engine works; strings and results of up to SHORT bytes fit. */
 #ifndef NAIVE_H
 #define NAIVE_H
 
-#include "check.h"
+#include "words.h"
 
 #include "lyndon.h"
-
-/* The longest string that these functions take. */
-#define SHORT 64
-
-/* The string of length n, up to SHORT, whose letters are the bits of a number, written to `at`. They are 7F and 80, which a signed
- * comparison would take the other way. */
-bytes word_of(uint8_t *at, size_t n, size_t number);
 
 /* The length of the longest string that both, of any length, begin with. */
 size_t naive_shared(bytes first, bytes second);
 
 /* Which of two strings of any length is smaller: 1 the first, 2 the second, 0 where they are the same. */
-size_t naive_smaller(bytes first, bytes second);
+size_t naive_smaller(bytes first, bytes second, bytes order);
 
-/* What there is to say of a pattern. */
+/* What there is to say of a pattern under an order. */
 typedef struct {
     size_t groups; /* number of groups; three numbers each */
     uint16_t group[3 * SHORT];
@@ -36,10 +29,10 @@ typedef struct {
     uint16_t node[4 * SHORT];
 } facts;
 
-facts naive_facts(bytes w);
+facts naive_facts(bytes w, bytes order);
 
 /* Writes the groups of the string, whose first byte stands at `place`, and answers their number. */
-size_t naive_groups(bytes w, size_t place, uint16_t *group);
+size_t naive_groups(bytes w, bytes order, size_t place, uint16_t *group);
 
 /* Writes the listing of a pattern with these groups, and answers its length; a line of it has at most 2 * SHORT + 20 bytes. */
 size_t naive_listing(bytes w, const facts *f, char *text);
@@ -57,6 +50,6 @@ typedef struct {
     uint16_t start[SHORT];
 } naive_edited;
 
-naive_edited naive_edit(bytes w, size_t from, size_t to, bytes block);
+naive_edited naive_edit(bytes w, bytes order, size_t from, size_t to, bytes block);
 
 #endif

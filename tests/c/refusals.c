@@ -1,5 +1,7 @@
-/* Each refusal that each function can give, alone and with later ones, its number written out. A refused call sets its numbers to 0 and
- * leaves every row as it was, which calls.c looks at. Where the limits lie is left to limits.c. */
+/* Each refusal that each function can give, alone and with later ones, its number written out: under each order, and once more with each row
+ * that is no order, when it is 13. A refused call sets its numbers to 0 and leaves every row as it was, which calls.c looks at. Where the
+ * limits lie is left to limits.c, 13 alone to no_order.c; comparisons and wanted tables have files of their own. */
+#include "orders.h"
 #include "tests.h"
 
 #include <string.h>
@@ -21,30 +23,43 @@ static void prepare(void) {
     for (size_t k = 0; k < LONG; k++) ones[k] = 1;
 }
 
-static void no_table(void) {
-    static const filling calls[] = { FACTOR, ARRAY, LAST_FACTORS, LONGEST_WORDS, LISTING, BLOCK };
-    static const size_t need[] = { 3, 2, 2, 2, 44, 5 }; /* entries that the results for aa have */
-    for (size_t k = 0; k < sizeof calls / sizeof *calls; k++) {
-        const char *name = filling_name[calls[k]];
-        check(fills(calls[k], equal_letters(LONG), PLENTY, REFUSED(1), NOTHING), "%s, 1", name);
-        check(fills(calls[k], equal_letters(LONG), 0, REFUSED(1), NOTHING), "%s, 1 before 8", name);
-        check(fills(calls[k], equal_letters(2), need[k] - 1, REFUSED(8), NOTHING), "%s, 8", name);
+/* A function that writes one row, which for aa has `need` entries: too long, too long with a short row, a short row. */
+static void one_row(filling call, size_t need, bytes order, uint8_t too_long, uint8_t too_short, const char *under) {
+    const char *name = filling_name[call];
+    check(fills(call, equal_letters(LONG), order, PLENTY, REFUSED(too_long), NOTHING), "%s, 1, %s", name, under);
+    check(fills(call, equal_letters(LONG), order, 0, REFUSED(too_long), NOTHING), "%s, 1 before 8, %s", name, under);
+    check(fills(call, equal_letters(2), order, need - 1, REFUSED(too_short), NOTHING), "%s, 8, %s", name, under);
+}
+
+static void no_table(const ranking *o) {
+    static const filling calls[] = { FACTOR, ARRAY, LAST_FACTORS, LONGEST_WORDS, LISTING };
+    static const size_t need[] = { 3, 2, 2, 2, 44 };
+    uint8_t one = first_refusal(o, 1), eight = first_refusal(o, 8);
+    for (size_t k = 0; k < sizeof calls / sizeof *calls; k++) one_row(calls[k], need[k], o->ranks, one, eight, o->name);
+    check(tells_lyndon(equal_letters(LONG), o->ranks, one, false), "lyndon_is_lyndon, 1, %s", o->name);
+}
+
+static void rotations(const ranking *o) {
+    const struct {
+        bytes w;
+        uint8_t number;
+    } cases[] = {
+        { LITERAL("abab"), LYNDON_REPEATED }, { LITERAL("baba"), 10 }, { LITERAL("abcabcabc"), 10 },
+        { equal_letters(LONG - 1), 10 },      { equal_letters(LONG), 1 },
+    };
+    for (size_t k = 0; k < sizeof cases / sizeof *cases; k++) {
+        bool good = tells_rotation(cases[k].w, o->ranks, first_refusal(o, cases[k].number), 0);
+        check(good, "lyndon_least_rotation, %u, case %zu, %s", cases[k].number, k, o->name);
     }
-    check(tells_lyndon(equal_letters(LONG), 1, false), "lyndon_is_lyndon, 1");
-    check(tells_rotation(LITERAL("abab"), LYNDON_REPEATED, 0), "lyndon_least_rotation of abab, 10");
-    check(tells_rotation(LITERAL("baba"), 10, 0), "lyndon_least_rotation of baba, 10");
-    check(tells_rotation(LITERAL("abcabcabc"), 10, 0), "lyndon_least_rotation of abcabcabc, 10");
-    check(tells_rotation(equal_letters(LONG - 1), 10, 0), "lyndon_least_rotation of the most equal letters, 10");
-    check(tells_rotation(equal_letters(LONG), 1, 0), "lyndon_least_rotation, 1 before 10");
 }
 
 /* Too long for a word, and no number: both numbers are 0, also where the word would not be at the front. */
-static void no_word(void) {
+static void no_word(const ranking *o) {
     uint8_t pattern[LONG];
     memset(pattern, 'a', LONG);
-    check(tells_longest_word((bytes){ pattern, LONG }, 0, 0), "lyndon_longest_word, too long, equal letters");
+    check(tells_longest_word((bytes){ pattern, LONG }, o->ranks, 0, 0), "lyndon_longest_word, too long, equal letters, %s", o->name);
     pattern[0] = pattern[LONG - 1] = 'b';
-    check(tells_longest_word((bytes){ pattern, LONG }, 0, 0), "lyndon_longest_word, too long, ba .. ab");
+    check(tells_longest_word((bytes){ pattern, LONG }, o->ranks, 0, 0), "lyndon_longest_word, too long, ba .. ab, %s", o->name);
 }
 
 static void not_blocks(void) {
@@ -70,7 +85,7 @@ static void long_blocks(void) {
     check(reads_block((bytes){ block, 7 + LONG + 1 }, REFUSED(1)), "lyndon_read_block, 1, a line feed");
 }
 
-static void tree(void) {
+static void tree(const ranking *o) {
     const struct {
         bytes w;
         size_t room;
@@ -79,16 +94,16 @@ static void tree(void) {
         { { letters, 257 }, PLENTY, 6 }, { { letters, 257 }, 0, 6 },      { { letters, LONG }, PLENTY, 6 },
         { { letters, 2 }, PLENTY, 7 },   { { letters, 2 }, 0, 7 },        { { letters, 256 }, PLENTY, 7 },
         { { letters, 0 }, PLENTY, 7 },   { { letters, 0 }, 0, 7 },        { { letters, 1 }, 1, 8 },
-        { { letters, 1 }, 0, 8 },        { LITERAL("ab"), 5, 8 },         { LITERAL("aabab"), 17, 8 },
+        { { letters, 1 }, 0, 8 },
     };
     for (size_t k = 0; k < sizeof cases / sizeof *cases; k++) {
-        bool good = fills(TREE, cases[k].w, cases[k].room, REFUSED(cases[k].number), NOTHING);
-        check(good, "lyndon_tree, %u, case %zu", cases[k].number, k);
+        bool good = fills(TREE, cases[k].w, o->ranks, cases[k].room, REFUSED(first_refusal(o, cases[k].number)), NOTHING);
+        check(good, "lyndon_tree, %u, case %zu, %s", cases[k].number, k, o->name);
     }
 }
 
 /* A pattern of equal letters has the same tables from both sides. */
-static void parts(void) {
+static void parts(const ranking *o) {
     uint16_t wrong[10];
     memcpy(wrong, ones, sizeof wrong);
     wrong[9] = 2;
@@ -105,9 +120,9 @@ static void parts(void) {
     };
     for (size_t k = 0; k < sizeof cases / sizeof *cases; k++) {
         for (side s = PREFIX; s <= SUFFIX; s++) {
-            told want = REFUSED(cases[k].number);
-            bool good = takes_part(s, equal_letters(cases[k].n), cases[k].t, cases[k].position, cases[k].room, want, NOTHING);
-            check(good, "%s, %u, case %zu", side_name[s], cases[k].number, k);
+            told want = REFUSED(first_refusal(o, cases[k].number));
+            bool good = takes_part(s, equal_letters(cases[k].n), o->ranks, cases[k].t, cases[k].position, cases[k].room, want, NOTHING);
+            check(good, "%s, %u, case %zu, %s", side_name[s], cases[k].number, k, o->name);
         }
     }
 }
@@ -142,37 +157,46 @@ static const edit_case edits[] = {
     { LONG - 1, LONG - 1, LONG - 1, 0, 256, 256, 0, 0, 8 },
 };
 
-static void refused_edits(void) {
+static void refused_edits(const ranking *o) {
     for (size_t k = 0; k < sizeof edits / sizeof *edits; k++) {
         const edit_case *c = &edits[k];
-        given g = { equal_letters(c->n), { ones, c->array }, { ones, c->last }, c->from, c->to, { letters, c->block } };
-        edited want = { .told = { .refusal = c->number } };
-        check(answers_edit(&g, c->middle, c->starts, &want), "lyndon_edit, %u, case %zu", c->number, k);
+        given g = { equal_letters(c->n), o->ranks, { ones, c->array }, { ones, c->last }, c->from, c->to, { letters, c->block } };
+        edited want = { .told = { .refusal = first_refusal(o, c->number) } };
+        check(answers_edit(&g, c->middle, c->starts, &want), "lyndon_edit, %u, case %zu, %s", c->number, k, o->name);
     }
 }
 
 /* A single wrong entry of either table refuses an edit. */
-static void wrong_entries(void) {
-    edited want = { .told = { .refusal = 5 } };
+static void wrong_entries(const ranking *o) {
+    edited want = { .told = { .refusal = first_refusal(o, 5) } };
     for (size_t k = 0; k < 10; k++) {
         uint16_t wrong[10];
         memcpy(wrong, ones, sizeof wrong);
         wrong[k]++;
-        given first = { equal_letters(10), { wrong, 10 }, { ones, 10 }, 4, 5, { letters, 2 } };
-        given second = { equal_letters(10), { ones, 10 }, { wrong, 10 }, 4, 5, { letters, 2 } };
-        check(answers_edit(&first, 300, PLENTY, &want) && answers_edit(&second, 300, PLENTY, &want), "lyndon_edit, entry %zu", k);
+        given first = { equal_letters(10), o->ranks, { wrong, 10 }, { ones, 10 }, 4, 5, { letters, 2 } };
+        given second = { equal_letters(10), o->ranks, { ones, 10 }, { wrong, 10 }, 4, 5, { letters, 2 } };
+        bool good = answers_edit(&first, 300, PLENTY, &want) && answers_edit(&second, 300, PLENTY, &want);
+        check(good, "lyndon_edit, entry %zu, %s", k, o->name);
     }
+}
+
+static void refused_under(const ranking *o) {
+    no_table(o);
+    rotations(o);
+    no_word(o);
+    tree(o);
+    parts(o);
+    refused_edits(o);
+    wrong_entries(o);
 }
 
 void test_refusals(void) {
     prepare();
-    part("each refusal of each function, alone and with later ones");
-    no_table();
-    no_word();
+    part("each refusal of each function, alone and with later ones, under each order");
     not_blocks();
     long_blocks();
-    tree();
-    parts();
-    refused_edits();
-    wrong_entries();
+    one_row(BLOCK, 5, NO_ORDER, 1, 8, "no order");
+    for (size_t k = 0; k < ORDERS; k++) refused_under(&orders[k]);
+    part("13 before each refusal of each function");
+    for (size_t k = 0; k < NO_ORDERS; k++) refused_under(&no_orders[k]);
 }

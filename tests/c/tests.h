@@ -6,11 +6,13 @@
 
 void test_header(void);
 void test_example(void);
+void test_no_order(void);
 void test_refusals(void);
 void test_limits(void);
 void test_words(void);
 void test_blocks(void);
 void test_edits(void);
+void test_random(void);
 void test_wanted(void);
 void test_compare(void);
 

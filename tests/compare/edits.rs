@@ -25,7 +25,7 @@ fn told(want: Want) -> EditAnswer {
     }
 }
 
-/// What is read, each in the middle of a longer row.
+/// What is read, each in the middle of a longer row; the order lies in one already.
 struct Read {
     pattern: Lent<u8>,
     array: Lent<u16>,
@@ -39,9 +39,9 @@ impl Read {
         Read { pattern: Lent::holding(g.pattern), array, last, block: Lent::holding(g.block) }
     }
 
-    fn given(&self, g: &Given) -> Given<'_> {
+    fn given<'a>(&'a self, g: &Given<'a>) -> Given<'a> {
         let (array, last) = (self.array.contents(), self.last.contents());
-        Given { pattern: self.pattern.contents(), array, last, from: g.from, to: g.to, block: self.block.contents() }
+        Given { pattern: self.pattern.contents(), array, last, block: self.block.contents(), ..*g }
     }
 
     fn unchanged(&self) -> bool {
@@ -62,7 +62,7 @@ pub fn one(t: &mut Tally, g: &Given, want: Want, rows: (usize, usize)) {
     let (groups, places): (&[Group], &[u16]) = want.map_or((&[], &[]), |e| (&e.middle, &e.starts));
     t.check(middle.holds(groups), || unlike("middle", brief(middle.contents()), brief(groups)));
     t.check(starts.holds(places), || unlike("starts", brief(starts.contents()), brief(places)));
-    t.check(read.unchanged(), || format!("{}: what is read was changed", case()));
+    t.check(read.unchanged() && t.order.unchanged(), || format!("{}: what is read was changed", case()));
 }
 
 /// Rows of each length worth trying; with a long pattern one of the two is exact.
@@ -86,9 +86,9 @@ fn bounded(t: &mut Tally, g: &Given, e: &Edit) {
 /// The kept, middle and resumed factors that an answer tells, at their places in the edited pattern. Kept ones are groups of one each.
 pub fn parts(right: &Right, g: &Given, e: &Edit) -> [Vec<Group>; 3] {
     let single = |m: Group| (0..m.power).map(move |k| Group { start: m.start + k * m.length, length: m.length, power: 1 });
-    let kept = (right.groups)(g.pattern).into_iter().flat_map(single).take(e.kept).collect();
+    let kept = (right.groups)(g.pattern, g.order).into_iter().flat_map(single).take(e.kept).collect();
     let place = (g.from + g.block.len() + e.resume - g.to) as u16;
-    let resumed = (right.groups)(&g.pattern[e.resume..]).into_iter().map(|m| Group { start: m.start + place, ..m }).collect();
+    let resumed = (right.groups)(&g.pattern[e.resume..], g.order).into_iter().map(|m| Group { start: m.start + place, ..m }).collect();
     [kept, e.middle.clone(), resumed]
 }
 
@@ -100,7 +100,7 @@ pub fn same_word(w: &[u8], a: &Group, b: &Group) -> bool {
 
 /// With equal neighbours joined, the three parts are the groups of the edited pattern.
 fn joined(t: &mut Tally, right: &Right, g: &Given, e: &Edit) {
-    let whole = edited(g.pattern, g.from, g.to, g.block);
+    let whole = edited(g);
     let mut found: Vec<Group> = Vec::new();
     for m in parts(right, g, e).concat() {
         match found.last_mut().filter(|before| same_word(&whole, before, &m)) {
@@ -108,7 +108,7 @@ fn joined(t: &mut Tally, right: &Right, g: &Given, e: &Edit) {
             None => found.push(m),
         }
     }
-    t.equal(&found, &(right.groups)(&whole), || format!("{}: the parts joined", describe(g)));
+    t.equal(&found, &(right.groups)(&whole, g.order), || format!("{}: the parts joined", describe(g)));
 }
 
 pub fn compare(t: &mut Tally, right: &Right, f: &Facts, g: &Given) {
@@ -117,7 +117,7 @@ pub fn compare(t: &mut Tally, right: &Right, f: &Facts, g: &Given) {
     if !holds.none() {
         return all_rows(t, g, Err(holds.first()));
     }
-    let e = (right.edit)(g.pattern, g.from, g.to, g.block);
+    let e = (right.edit)(g);
     bounded(t, g, &e);
     joined(t, right, g, &e);
     all_rows(t, g, Ok(&e));

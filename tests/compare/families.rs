@@ -1,4 +1,4 @@
-//! Ten families of long words. The two letters are the bytes 7F and 80, which a signed comparison would take the other way.
+//! Ten families of long words, made of ranks. The two letters are 7F and 80, which a signed comparison would take the other way.
 use crate::tally::Random;
 
 pub const A: u8 = 0x7F;

@@ -1,17 +1,18 @@
 //! The same answers for long words, by other ways than the definitions. Each is compared with the naive one in every run.
-use crate::engine::Group;
+use crate::engine::{Given, Group};
+use crate::ranks::below;
 use crate::right::{Edit, Facts, Right, TREE_LIMIT, edited};
 use std::cmp::Ordering;
 
 pub const FAST: Right = Right { facts, groups, listing, edit };
 
 /// Duval's algorithm; gives start, factor length and power of each group to `each`.
-fn duval(w: &[u8], mut each: impl FnMut(usize, usize, usize)) {
+fn duval(w: &[u8], order: &[u8], mut each: impl FnMut(usize, usize, usize)) {
     let mut start = 0;
     while start < w.len() {
         let (mut k, mut j) = (start, start + 1);
-        while j < w.len() && w[k] <= w[j] {
-            k = if w[k] < w[j] { start } else { k + 1 };
+        while j < w.len() && !below(order, w[j], w[k]) {
+            k = if w[k] == w[j] { k + 1 } else { start };
             j += 1;
         }
         let length = j - k;
@@ -21,47 +22,65 @@ fn duval(w: &[u8], mut each: impl FnMut(usize, usize, usize)) {
     }
 }
 
-fn groups(w: &[u8]) -> Vec<Group> {
+fn groups(w: &[u8], order: &[u8]) -> Vec<Group> {
     let mut found = Vec::new();
-    duval(w, |start, length, power| found.push(Group { start: start as u16, length: length as u16, power: power as u16 }));
+    duval(w, order, |start, length, power| found.push(Group { start: start as u16, length: length as u16, power: power as u16 }));
     found
 }
 
-fn last_factor(w: &[u8]) -> usize {
+pub fn last_factor(w: &[u8], order: &[u8]) -> usize {
     let mut last = 0;
-    duval(w, |_, length, _| last = length);
+    duval(w, order, |_, length, _| last = length);
     last
 }
 
-/// The place of each suffix among all suffixes in order, by doubling: ranks by 1, 2, 4 .. bytes; 0 is past the end.
-fn suffix_ranks(w: &[u8]) -> Vec<u32> {
-    let mut ranks: Vec<u32> = w.iter().map(|&b| u32::from(b) + 1).collect();
+/// What a scan has read behind the factors before is a Lyndon word over and over, and a beginning of it. The last factor is that word or, where there
+/// is more behind the last of them, that of the beginning, which was told when the scan was there.
+fn prefix_table(w: &[u8], order: &[u8]) -> Vec<u16> {
+    let mut last = vec![1; w.len()];
+    let mut start = 0;
+    while start < w.len() {
+        let (mut k, mut j) = (start, start + 1);
+        while j < w.len() && !below(order, w[j], w[k]) {
+            k = if w[k] == w[j] { k + 1 } else { start };
+            j += 1;
+            let more = (j - start) % (j - k);
+            last[j - 1] = if more == 0 { (j - k) as u16 } else { last[start + more - 1] };
+        }
+        start = j - (j - start) % (j - k);
+    }
+    last
+}
+
+/// The place of each suffix among all suffixes in order, by doubling: places by 1, 2, 4 .. bytes; 0 is past the end.
+fn suffix_places(w: &[u8], order: &[u8]) -> Vec<u32> {
+    let mut places: Vec<u32> = w.iter().map(|&b| u32::from(order[usize::from(b)]) + 1).collect();
     let mut step = 1;
     while step < w.len() {
-        let key = |i: usize| u64::from(ranks[i]) << 32 | u64::from(*ranks.get(i + step).unwrap_or(&0));
-        let mut order: Vec<(u64, usize)> = (0..w.len()).map(|i| (key(i), i)).collect();
-        order.sort_unstable();
+        let key = |i: usize| u64::from(places[i]) << 32 | u64::from(*places.get(i + step).unwrap_or(&0));
+        let mut sorted: Vec<(u64, usize)> = (0..w.len()).map(|i| (key(i), i)).collect();
+        sorted.sort_unstable();
         let mut next = vec![1; w.len()];
-        for pair in order.windows(2) {
+        for pair in sorted.windows(2) {
             next[pair[1].1] = next[pair[0].1] + u32::from(pair[0].0 < pair[1].0);
         }
-        let distinct = next[order[w.len() - 1].1] as usize == w.len();
-        ranks = next;
+        let distinct = next[sorted[w.len() - 1].1] as usize == w.len();
+        places = next;
         if distinct {
             break;
         }
         step *= 2;
     }
-    ranks
+    places
 }
 
 /// The longest Lyndon substring at i ends where the first smaller suffix starts.
-pub fn reach(w: &[u8]) -> Vec<u16> {
-    let ranks = suffix_ranks(w);
+pub fn reach(w: &[u8], order: &[u8]) -> Vec<u16> {
+    let places = suffix_places(w, order);
     let mut table = vec![0; w.len()];
     let mut waiting: Vec<usize> = Vec::new();
     for j in 0..=w.len() {
-        while let Some(&i) = waiting.last().filter(|&&i| j == w.len() || ranks[j] < ranks[i]) {
+        while let Some(&i) = waiting.last().filter(|&&i| j == w.len() || places[j] < places[i]) {
             table[i] = (j - i) as u16;
             waiting.pop();
         }
@@ -77,7 +96,7 @@ fn longest(array: &[u16]) -> (usize, Vec<u16>) {
 }
 
 /// Two candidates i < j; the one whose rotation is found larger passes over what was compared.
-pub fn mark(w: &[u8]) -> usize {
+pub fn mark(w: &[u8], order: &[u8]) -> usize {
     let n = w.len();
     let (mut i, mut j, mut same) = (0, 1, 0);
     while i < n && j < n && same < n {
@@ -86,7 +105,7 @@ pub fn mark(w: &[u8]) -> usize {
             same += 1;
             continue;
         }
-        if a > b {
+        if below(order, b, a) {
             i += same + 1;
         } else {
             j += same + 1;
@@ -113,35 +132,40 @@ pub fn repeated(w: &[u8]) -> bool {
 }
 
 /// The longest proper suffix that is a Lyndon word is the last factor of what follows the first byte.
-fn tree(w: &[u8], start: usize, nodes: &mut Vec<u16>) {
+fn tree(w: &[u8], order: &[u8], start: usize, nodes: &mut Vec<u16>) {
     nodes.extend([start as u16, w.len() as u16]);
     if w.len() > 1 {
-        let cut = w.len() - last_factor(&w[1..]);
-        tree(&w[..cut], start, nodes);
-        tree(&w[cut..], start + cut, nodes);
+        let cut = w.len() - last_factor(&w[1..], order);
+        tree(&w[..cut], order, start, nodes);
+        tree(&w[cut..], order, start + cut, nodes);
     }
 }
 
-/// The place of the first difference, and the order of slices.
-pub fn compared(a: &[u8], b: &[u8]) -> [usize; 2] {
-    let shared = a.iter().zip(b).position(|(x, y)| x != y).unwrap_or(a.len().min(b.len()));
-    let smaller = match a.cmp(b) {
+/// The place of the first difference.
+fn shared(a: &[u8], b: &[u8]) -> usize {
+    a.iter().zip(b).position(|(x, y)| x != y).unwrap_or(a.len().min(b.len()))
+}
+
+/// The common beginning, and how Rust orders the lists of the ranks.
+pub fn compared(a: &[u8], b: &[u8], order: &[u8]) -> [usize; 2] {
+    let ranks = |w: &[u8]| w.iter().map(|&byte| order[usize::from(byte)]).collect::<Vec<u8>>();
+    let smaller = match ranks(a).cmp(&ranks(b)) {
         Ordering::Equal => 0,
         Ordering::Less => 1,
         Ordering::Greater => 2,
     };
-    [shared, smaller]
+    [shared(a, b), smaller]
 }
 
 /// The same lines, each put together byte by byte. A line is closed by its last number once the next group is known.
-fn listing(w: &[u8]) -> Vec<u8> {
+fn listing(w: &[u8], order: &[u8]) -> Vec<u8> {
     let mut text = b"start,length,power,word,shared\r\n".to_vec();
     let mut before: &[u8] = &[];
     let close = |text: &mut Vec<u8>, shared: usize| text.extend([b",", shared.to_string().as_bytes(), b"\r\n"].concat());
-    duval(w, |start, length, power| {
+    duval(w, order, |start, length, power| {
         let word = &w[start..start + length];
         if !before.is_empty() {
-            close(&mut text, compared(before, word)[0]);
+            close(&mut text, shared(before, word));
         }
         for number in [start, length, power] {
             text.extend(number.to_string().bytes());
@@ -158,23 +182,24 @@ fn listing(w: &[u8]) -> Vec<u8> {
     text
 }
 
-fn facts(w: &[u8]) -> Facts {
-    let groups = groups(w);
-    let array = reach(w);
+fn facts(w: &[u8], order: &[u8]) -> Facts {
+    let groups = groups(w, order);
+    let array = reach(w, order);
     let (length, starts) = longest(&array);
-    let last = (1..=w.len()).map(|q| last_factor(&w[..q]) as u16).collect();
+    let last = prefix_table(w, order);
     let lyndon = groups.len() == 1 && groups[0].power == 1;
     let mut nodes = Vec::new();
     if lyndon && w.len() <= TREE_LIMIT {
-        tree(w, 0, &mut nodes);
+        tree(w, order, 0, &mut nodes);
     }
-    Facts { groups, array, last, length, starts, mark: mark(w), repeated: repeated(w), lyndon, nodes, listing: listing(w) }
+    let (mark, listing) = (mark(w, order), listing(w, order));
+    Facts { groups, array, last, length, starts, mark, repeated: repeated(w), lyndon, nodes, listing }
 }
 
 /// The end of each factor.
-fn ends(w: &[u8]) -> Vec<usize> {
+fn ends(w: &[u8], order: &[u8]) -> Vec<usize> {
     let mut found = Vec::new();
-    duval(w, |start, length, power| found.extend((1..=power).map(|k| start + k * length)));
+    duval(w, order, |start, length, power| found.extend((1..=power).map(|k| start + k * length)));
     found
 }
 
@@ -192,15 +217,16 @@ fn grouped(w: &[u8], bounds: &[usize]) -> Vec<Group> {
     found
 }
 
-fn edit(w: &[u8], from: usize, to: usize, block: &[u8]) -> Edit {
-    let edited = edited(w, from, to, block);
-    let (old, new) = (ends(w), ends(&edited));
+fn edit(g: &Given) -> Edit {
+    let Given { pattern: w, order, from, to, block, .. } = *g;
+    let edited = edited(g);
+    let (old, new) = (ends(w, order), ends(&edited, order));
     let kept = old.iter().zip(&new).take_while(|(a, b)| a == b && **a <= from).count();
     let resumed = from + block.len();
     let starts_at = |place: usize| place == 0 || place == edited.len() || new.binary_search(&place).is_ok();
     let place = (resumed..).find(|&p| starts_at(p)).unwrap();
     let first = if kept == 0 { 0 } else { new[kept - 1] };
     let bounds: Vec<usize> = std::iter::once(first).chain(new[kept..].iter().copied().take_while(|&e| e <= place)).collect();
-    let (length, starts) = longest(&reach(&edited));
+    let (length, starts) = longest(&reach(&edited, order));
     Edit { kept, resume: place - resumed + to, middle: grouped(&edited, &bounds), length, starts }
 }

@@ -6,6 +6,7 @@ use crate::families::families;
 use crate::fast::FAST;
 use crate::long::some_edits;
 use crate::oracle::{NAIVE, is_lyndon};
+use crate::ranks::BYTE_ORDER;
 use crate::right::{BLOCK_LIMIT, LIMIT, Right, edited, shape_holds};
 use crate::short::{every_word, random_block, random_stretch, random_word};
 use crate::tally::{Random, Tally};
@@ -27,12 +28,12 @@ fn printed(g: &Given) -> io::Result<(Vec<u8>, bool)> {
     Ok((done.stdout, done.status.success()))
 }
 
-/// One edit; the program makes the tables itself. Whether it is accepted.
+/// One edit; the program makes the tables itself and works in byte order. Whether it is accepted.
 fn compare(t: &mut Tally, right: &Right, g: &Given) -> bool {
     let holds = shape_holds(g);
     t.edit(holds.none());
     let want = match holds.first() {
-        0 => (right.listing)(&edited(g.pattern, g.from, g.to, g.block)),
+        0 => (right.listing)(&edited(g), g.order),
         number => format!("refused,{number}\r\n").into_bytes(),
     };
     let (got, well) = printed(g).expect("the program can be run and its files written");
@@ -45,7 +46,7 @@ fn compare(t: &mut Tally, right: &Right, g: &Given) -> bool {
 }
 
 fn given<'a>(pattern: &'a [u8], from: usize, to: usize, block: &'a [u8]) -> Given<'a> {
-    Given { pattern, array: &[], last: &[], from, to, block }
+    Given { pattern, order: &BYTE_ORDER, array: &[], last: &[], from, to, block }
 }
 
 /// Every stretch, also those past the end and from its end to its start, and every block. Each edit that is accepted goes to `each`.
@@ -72,8 +73,8 @@ pub fn short(t: &mut Tally, letters: &[u8], length: usize, block_length: usize) 
 
 /// Where equal words meet: at the first seam, at the second, and from kept to resumed factors where the middle is empty.
 fn meetings(g: &Given) -> [bool; 3] {
-    let e = (NAIVE.edit)(g.pattern, g.from, g.to, g.block);
-    let whole = edited(g.pattern, g.from, g.to, g.block);
+    let e = (NAIVE.edit)(g);
+    let whole = edited(g);
     let [kept, middle, resumed] = parts(&NAIVE, g, &e);
     let meet = |a: Option<_>, b: Option<_>| a.zip(b).is_some_and(|(a, b)| same_word(&whole, a, b));
     let through = middle.is_empty() && meet(kept.last(), resumed.first());
@@ -83,7 +84,7 @@ fn meetings(g: &Given) -> [bool; 3] {
 /// A Lyndon word over and over, with itself put in and parts taken out. Every kind of meeting must come up, and both seams at once.
 pub fn seams(t: &mut Tally, letters: &[u8], length: usize) {
     let mut seen = [0; 4];
-    for word in every_word(letters, length).iter().filter(|w| is_lyndon(w)) {
+    for word in every_word(letters, length).iter().filter(|w| is_lyndon(w, &BYTE_ORDER)) {
         let blocks: Vec<Vec<u8>> = (0..3).map(|k| word.repeat(k)).collect();
         for k in 1..4 {
             every_edit(t, &word.repeat(k), &blocks, |g| {

@@ -3,7 +3,7 @@ use crate::calls::{self, Side};
 use crate::edits;
 use crate::engine::Given;
 use crate::families::{A, B, families};
-use crate::fast::FAST;
+use crate::fast::{FAST, last_factor};
 use crate::right::{Facts, LIMIT};
 use crate::tally::{Random, Tally};
 
@@ -45,15 +45,17 @@ pub fn some_edits(r: &mut Random, w: &[u8]) -> Vec<(usize, usize, Vec<u8>)> {
     all
 }
 
-fn long_edits(t: &mut Tally, r: &mut Random, w: &[u8], f: &Facts) {
-    for (from, to, block) in some_edits(r, w) {
-        edits::compare(t, &FAST, f, &Given { pattern: w, array: &f.array, last: &f.last, from, to, block: &block });
+/// The word is that of the ranks, of which the blocks are made too.
+fn long_edits(t: &mut Tally, r: &mut Random, ranks: &[u8], w: &[u8], f: &Facts) {
+    let order = t.order.clone();
+    for (from, to, block) in some_edits(r, ranks) {
+        edits::compare(t, &FAST, f, &f.given(w, order.ranks(), from, to, &order.spelled(&block)));
     }
 }
 
 /// One entry changed somewhere: the questions over that table are refused.
 fn wrong_entry(t: &mut Tally, r: &mut Random, w: &[u8], f: &Facts) {
-    let n = w.len();
+    let (n, order) = (w.len(), t.order.clone());
     for place in [0, n - 1, r.below(n), r.below(n)] {
         let change = |table: &[u16]| {
             let mut wrong = table.to_vec();
@@ -63,9 +65,9 @@ fn wrong_entry(t: &mut Tally, r: &mut Random, w: &[u8], f: &Facts) {
         let (array, last) = (change(&f.array), change(&f.last));
         calls::part(t, &FAST, w, f, Side::Prefix, &last, n / 2);
         calls::part(t, &FAST, w, f, Side::Suffix, &array, n / 2);
-        let given = |array, last| Given { pattern: w, array, last, from: n / 2, to: n / 2 + 1, block: &[] };
-        edits::compare(t, &FAST, f, &given(&array, &f.last));
-        edits::compare(t, &FAST, f, &given(&f.array, &last));
+        let given = f.given(w, order.ranks(), n / 2, n / 2 + 1, &[]);
+        edits::compare(t, &FAST, f, &Given { array: &array, ..given });
+        edits::compare(t, &FAST, f, &Given { last: &last, ..given });
     }
 }
 
@@ -76,8 +78,8 @@ pub fn halves(t: &mut Tally) {
     let differ = [&equal[..], &[B + 1], &equal, &[B]].concat();
     let next = [&equal[1..], &[B]].concat();
     let shorter = [&next[..], &[B], &next].concat();
-    for w in [differ, shorter] {
-        let f = (FAST.facts)(&w);
+    for w in [differ, shorter].map(|ranks| t.order.spelled(&ranks)) {
+        let f = (FAST.facts)(&w, t.order.ranks());
         let lengths: Vec<u16> = f.groups.iter().map(|g| g.length).collect();
         t.equal(&lengths, &vec![most as u16 + 1, (w.len() - most - 1) as u16], || "the lengths of two halves".into());
         let line = format!(",{most}\r\n{},", most + 1);
@@ -87,13 +89,18 @@ pub fn halves(t: &mut Tally) {
 }
 
 pub fn words(t: &mut Tally, r: &mut Random, n: usize) {
-    for (family, w) in families(n, r) {
-        assert_eq!(w.len(), n);
+    for (family, ranks) in families(n, r) {
+        assert_eq!(ranks.len(), n);
         t.origin = format!("{family}, {n} bytes: ");
-        let f = (FAST.facts)(&w);
+        let w = t.order.spelled(&ranks);
+        let f = (FAST.facts)(&w, t.order.ranks());
         let positions = [0, 1, n / 2, n - 1, n, n + 1, r.below(n), r.below(n), r.below(n), r.below(n)];
+        for &q in positions.iter().filter(|&&q| 0 < q && q <= n) {
+            let last = last_factor(&w[..q], t.order.ranks());
+            t.equal(&usize::from(f.last[q - 1]), &last, || format!("the last factor of the first {q} bytes"));
+        }
         calls::word(t, &FAST, &w, &f, &positions);
-        long_edits(t, r, &w, &f);
+        long_edits(t, r, &ranks, &w, &f);
         wrong_entry(t, r, &w, &f);
     }
 }

@@ -1,5 +1,5 @@
 //! Long words with periods inside periods, on which a comparison that starts from what was seen before has most to remember, and much of it in the
-//! same place. The reach table is made and tested on many of them, and every call is compared on some.
+//! same place. They are made of ranks. The reach table is made and tested on many of them, and every call is compared on some.
 use crate::calls::{self, Side};
 use crate::families::{A, B, families};
 use crate::fast::{FAST, reach};
@@ -7,10 +7,11 @@ use crate::right::{Facts, LIMIT};
 use crate::steps::{examine, wrong};
 use crate::tally::{Random, Tally};
 
-/// The reach table made, and questions over it as it is and with an entry changed.
-fn table(t: &mut Tally, w: &[u8], r: &mut Random) {
+/// The reach table of the word of these ranks made, and questions over it as it is and with an entry changed.
+fn table(t: &mut Tally, ranks: &[u8], r: &mut Random) {
     t.words += 1;
-    let f = Facts { array: reach(w), ..Facts::default() };
+    let w = &t.order.spelled(ranks)[..];
+    let f = Facts { array: reach(w, t.order.ranks()), ..Facts::default() };
     calls::array(t, w, &f);
     let position = r.below(w.len() + 1);
     calls::part(t, &FAST, w, &f, Side::Suffix, &f.array, position);
@@ -109,7 +110,7 @@ fn spaced(r: &mut Random, count: usize) -> Vec<u8> {
 }
 
 pub fn spaced_letters(t: &mut Tally, r: &mut Random, count: usize) {
-    for k in 0..count {
+    for k in 0..t.share(count) {
         t.origin = format!("spaced letters {k}: ");
         let length = 2 + r.below(14);
         table(t, &spaced(r, length), r);
@@ -118,7 +119,7 @@ pub fn spaced_letters(t: &mut Tally, r: &mut Random, count: usize) {
 
 /// Every tenth with all calls.
 pub fn nested_periods(t: &mut Tally, r: &mut Random, count: usize) {
-    for k in 0..count {
+    for k in 0..t.share(count) {
         t.origin = format!("nested periods {k}: ");
         let n = 200 + r.below(1800);
         let w = nested(r, n);
@@ -128,7 +129,7 @@ pub fn nested_periods(t: &mut Tally, r: &mut Random, count: usize) {
 
 /// Families with a byte changed.
 pub fn changed_families(t: &mut Tally, r: &mut Random, count: usize) {
-    for _ in 0..count {
+    for _ in 0..t.share(count) {
         let n = 300 + r.below(2000);
         for (family, w) in families(n, r).into_iter().skip(2) {
             t.origin = format!("{family}, {n} bytes, a byte changed: ");

@@ -1,12 +1,13 @@
 //! What the naive and the fast version both answer, and which refusals hold.
 use crate::engine::{Given, Group};
+use crate::ranks::is_order;
 
 pub const LIMIT: usize = 16_384;
 pub const BLOCK_LIMIT: usize = 256;
 pub const TREE_LIMIT: usize = 256;
 pub const WANTED_LIMIT: usize = 256;
 
-/// What there is to say of a pattern.
+/// What there is to say of a pattern under an order.
 #[derive(Clone, Debug, Default, PartialEq)]
 pub struct Facts {
     pub groups: Vec<Group>,
@@ -22,6 +23,13 @@ pub struct Facts {
     pub listing: Vec<u8>,
 }
 
+impl Facts {
+    /// An edit over the pattern's own tables.
+    pub fn given<'a>(&'a self, pattern: &'a [u8], order: &'a [u8], from: usize, to: usize, block: &'a [u8]) -> Given<'a> {
+        Given { pattern, order, array: &self.array, last: &self.last, from, to, block }
+    }
+}
+
 /// The answer to an accepted edit.
 #[derive(Clone, Debug, PartialEq)]
 pub struct Edit {
@@ -32,12 +40,12 @@ pub struct Edit {
     pub starts: Vec<u16>,
 }
 
-/// One version of what is right.
+/// One version of what is right: of a pattern and an order, and of an edit, whose tables it does not look at.
 pub struct Right {
-    pub facts: fn(&[u8]) -> Facts,
-    pub groups: fn(&[u8]) -> Vec<Group>,
-    pub listing: fn(&[u8]) -> Vec<u8>,
-    pub edit: fn(&[u8], usize, usize, &[u8]) -> Edit,
+    pub facts: fn(&[u8], &[u8]) -> Facts,
+    pub groups: fn(&[u8], &[u8]) -> Vec<Group>,
+    pub listing: fn(&[u8], &[u8]) -> Vec<u8>,
+    pub edit: fn(&Given) -> Edit,
 }
 
 /// Three numbers a group.
@@ -58,9 +66,9 @@ impl Holds {
         self.0 == 0
     }
 
-    /// The first that is tested, or 0: 9 before 1, and 11 and 12 before 8; the others go in number order.
+    /// The first that is tested, or 0: 9 and then 13 before all others, and 11 and 12 before 8; the others go in number order.
     pub fn first(self) -> u8 {
-        [9, 1, 2, 3, 4, 5, 6, 7, 11, 12, 8, 10].into_iter().find(|n| self.0 >> n & 1 == 1).unwrap_or(0)
+        [9, 13, 1, 2, 3, 4, 5, 6, 7, 11, 12, 8, 10].into_iter().find(|n| self.0 >> n & 1 == 1).unwrap_or(0)
     }
 }
 
@@ -69,32 +77,41 @@ fn wrong_table(table: &[u16], right: &[u16]) -> bool {
     (0..right.len()).any(|i| table.get(i) != Some(&right[i]))
 }
 
-pub fn pattern_holds(n: usize) -> Holds {
+/// A pattern of n bytes that no order belongs to.
+pub fn length_holds(n: usize) -> Holds {
     Holds::default().and(1, n > LIMIT)
 }
 
+pub fn order_holds(order: &[u8]) -> Holds {
+    Holds::default().and(13, !is_order(order))
+}
+
+pub fn pattern_holds(n: usize, order: &[u8]) -> Holds {
+    order_holds(order).and(1, n > LIMIT)
+}
+
 /// Two strings compared.
-pub fn compare_holds(first: usize, second: usize) -> Holds {
-    Holds::default().and(1, first > LIMIT || second > LIMIT)
+pub fn compare_holds(first: usize, second: usize, order: &[u8]) -> Holds {
+    pattern_holds(first.max(second), order)
 }
 
 /// The phase mark of a pattern, which may be a shorter word repeated.
-pub fn mark_holds(n: usize, repeated: bool) -> Holds {
-    pattern_holds(n).and(10, repeated)
+pub fn mark_holds(n: usize, order: &[u8], repeated: bool) -> Holds {
+    pattern_holds(n, order).and(10, repeated)
 }
 
-pub fn tree_holds(n: usize, lyndon: bool) -> Holds {
-    Holds::default().and(6, n > TREE_LIMIT).and(7, !lyndon)
+pub fn tree_holds(n: usize, order: &[u8], lyndon: bool) -> Holds {
+    order_holds(order).and(6, n > TREE_LIMIT).and(7, !lyndon)
 }
 
 /// A wanted table of n entries, which a pattern has or none has.
-pub fn wanted_holds(n: usize, had: bool) -> Holds {
-    Holds::default().and(11, n > WANTED_LIMIT).and(12, !had)
+pub fn wanted_holds(n: usize, order: &[u8], had: bool) -> Holds {
+    order_holds(order).and(11, n > WANTED_LIMIT).and(12, !had)
 }
 
 /// A question about the prefix or suffix at a position, over a table.
-pub fn part_holds(n: usize, position: usize, table: &[u16], right: &[u16]) -> Holds {
-    pattern_holds(n).and(2, position > n).and(5, wrong_table(table, right))
+pub fn part_holds(n: usize, order: &[u8], position: usize, table: &[u16], right: &[u16]) -> Holds {
+    pattern_holds(n, order).and(2, position > n).and(5, wrong_table(table, right))
 }
 
 /// The length of what an edit makes, whatever its positions.
@@ -104,14 +121,14 @@ fn edited_length(g: &Given) -> usize {
 }
 
 /// The edited pattern: the stored one up to `from`, the block, the stored one from `to` on.
-pub fn edited(w: &[u8], from: usize, to: usize, block: &[u8]) -> Vec<u8> {
-    [&w[..from], block, &w[to..]].concat()
+pub fn edited(g: &Given) -> Vec<u8> {
+    [&g.pattern[..g.from], g.block, &g.pattern[g.to..]].concat()
 }
 
 /// The refusals of an edit that concern neither its tables nor its rows.
 pub fn shape_holds(g: &Given) -> Holds {
     let n = g.pattern.len();
-    pattern_holds(n).and(2, g.from > g.to || g.to > n).and(3, g.block.len() > BLOCK_LIMIT).and(4, edited_length(g) > LIMIT)
+    pattern_holds(n, g.order).and(2, g.from > g.to || g.to > n).and(3, g.block.len() > BLOCK_LIMIT).and(4, edited_length(g) > LIMIT)
 }
 
 pub fn edit_holds(g: &Given, facts: &Facts) -> Holds {

@@ -3,8 +3,9 @@ use crate::calls;
 use crate::edits;
 use crate::engine::Given;
 use crate::families::families;
-use crate::fast::FAST;
+use crate::fast::{self, FAST};
 use crate::oracle::{NAIVE, every_split};
+use crate::ranks::Order;
 use crate::right::{Facts, edit_holds};
 use crate::tally::{Random, Tally, show};
 
@@ -24,18 +25,17 @@ pub fn every_word(letters: &[u8], length: usize) -> Vec<Vec<u8>> {
 
 /// What is right of a word, by both versions.
 pub fn facts(t: &mut Tally, w: &[u8]) -> Facts {
-    let naive = (NAIVE.facts)(w);
-    t.equal(&(FAST.facts)(w), &naive, || format!("the fast version of {}", show(w)));
-    t.equal(&(FAST.groups)(w), &naive.groups, || format!("the fast groups of {}", show(w)));
+    let order = t.order.clone();
+    let naive = (NAIVE.facts)(w, order.ranks());
+    t.equal(&(FAST.facts)(w, order.ranks()), &naive, || format!("the fast version of {}", show(w)));
+    t.equal(&(FAST.groups)(w, order.ranks()), &naive.groups, || format!("the fast groups of {}", show(w)));
     naive
 }
 
 /// An edit, which both versions and the call answer.
 pub fn edit(t: &mut Tally, f: &Facts, g: &Given) {
     if edit_holds(g, f).none() {
-        let naive = (NAIVE.edit)(g.pattern, g.from, g.to, g.block);
-        let fast = (FAST.edit)(g.pattern, g.from, g.to, g.block);
-        t.equal(&fast, &naive, || format!("the fast version of an {}", edits::describe(g)));
+        t.equal(&(FAST.edit)(g), &(NAIVE.edit)(g), || format!("the fast version of an {}", edits::describe(g)));
     }
     edits::compare(t, &NAIVE, f, g);
 }
@@ -43,11 +43,11 @@ pub fn edit(t: &mut Tally, f: &Facts, g: &Given) {
 /// Of all splits of the word one alone is into factors, and it is the one answered.
 fn one_split(t: &mut Tally, w: &[u8], f: &Facts) {
     let lengths = f.groups.iter().flat_map(|g| vec![usize::from(g.length); usize::from(g.power)]).collect();
-    t.equal(&every_split(w), &vec![lengths], || format!("the splits of {}", show(w)));
+    t.equal(&every_split(w, t.order.ranks()), &vec![lengths], || format!("the splits of {}", show(w)));
 }
 
 pub fn words(t: &mut Tally, letters: &[u8], length: usize) {
-    for w in every_word(letters, length) {
+    for w in every_word(&t.order.spelled(letters), length) {
         let f = facts(t, &w);
         one_split(t, &w, &f);
         let positions: Vec<usize> = (0..=w.len() + 1).collect();
@@ -57,14 +57,15 @@ pub fn words(t: &mut Tally, letters: &[u8], length: usize) {
 
 /// Every stretch, also those past the end and from its end to its start, and every block.
 pub fn all_edits(t: &mut Tally, letters: &[u8], length: usize, block_length: usize) {
-    let blocks = every_word(letters, block_length);
-    for w in every_word(letters, length) {
+    let (letters, order) = (t.order.spelled(letters), t.order.clone());
+    let blocks = every_word(&letters, block_length);
+    for w in every_word(&letters, length) {
         t.words += 1;
         let f = facts(t, &w);
         for from in 0..=w.len() + 1 {
             for to in 0..=w.len() + 1 {
                 for block in &blocks {
-                    edit(t, &f, &Given { pattern: &w, array: &f.array, last: &f.last, from, to, block });
+                    edit(t, &f, &f.given(&w, order.ranks(), from, to, block));
                 }
             }
         }
@@ -98,11 +99,13 @@ fn copying_itself(r: &mut Random, letters: &[u8], length: usize) -> Vec<u8> {
     w
 }
 
+/// A word of ranks.
 pub fn random_word(r: &mut Random) -> Vec<u8> {
     let length = r.below(71);
     random_of(r, length)
 }
 
+/// A word of so many ranks.
 pub fn random_of(r: &mut Random, length: usize) -> Vec<u8> {
     let all: Vec<u8> = (0..=255).collect();
     let letters: &[u8] = [&[0x7F, 0x80][..], &[0, 0x7F, 0xFF], &[0x61, 0x62, 0x63, 0x64], &all][r.below(4)];
@@ -138,27 +141,28 @@ pub fn random_stretch(r: &mut Random, n: usize) -> (usize, usize) {
 
 /// All calls at some positions, and some edits.
 fn sampled(t: &mut Tally, r: &mut Random, w: &[u8], edits: usize) {
-    let f = facts(t, w);
+    let (f, order) = (facts(t, w), t.order.clone());
     let positions = [r.below(w.len() + 2), r.below(w.len() + 1)];
     calls::word(t, &NAIVE, w, &f, &positions);
     for _ in 0..edits {
         let (from, to) = random_stretch(r, w.len());
         let block = random_block(r, w);
-        edit(t, &f, &Given { pattern: w, array: &f.array, last: &f.last, from, to, block: &block });
+        edit(t, &f, &f.given(w, order.ranks(), from, to, &block));
     }
 }
 
 /// The word from its phase mark on: a Lyndon word, unless it is a shorter one repeated.
-fn rotated(mut w: Vec<u8>) -> Vec<u8> {
-    let mark = (FAST.facts)(&w).mark;
+fn rotated(mut w: Vec<u8>, order: &Order) -> Vec<u8> {
+    let mark = fast::mark(&w, order.ranks());
     w.rotate_left(mark);
     w
 }
 
 pub fn random(t: &mut Tally, r: &mut Random, count: usize) {
-    for _ in 0..count {
-        let w = random_word(r);
-        let w = if r.below(4) == 0 { rotated(w) } else { w };
+    let order = t.order.clone();
+    for _ in 0..t.share(count) {
+        let w = order.spelled(&random_word(r));
+        let w = if r.below(4) == 0 { rotated(w, &order) } else { w };
         sampled(t, r, &w, 2);
     }
 }
@@ -167,7 +171,8 @@ pub fn random(t: &mut Tally, r: &mut Random, count: usize) {
 pub fn medium(t: &mut Tally, r: &mut Random, n: usize) {
     for (family, w) in families(n, r) {
         t.origin = format!("{family}, {n} bytes: ");
+        let (w, order) = (t.order.spelled(&w), t.order.clone());
         sampled(t, r, &w, 3);
-        sampled(t, r, &rotated(w), 3);
+        sampled(t, r, &rotated(w, &order), 3);
     }
 }

@@ -1,5 +1,6 @@
 //! Words on which a step of several bytes begins, ends or fails at each place: agreements and stretches of lengths about multiples of sixteen, at
-//! several offsets. Every call is compared on them, and edits at the start, in the middle and at the end, over right tables and over wrong ones.
+//! several offsets, all made of ranks. Every call is compared on them, and edits at the start, in the middle and at the end, over right tables and
+//! over wrong ones.
 use crate::calls::{self, Side};
 use crate::edits;
 use crate::engine::Given;
@@ -13,8 +14,8 @@ use crate::tally::{Random, Tally};
 const NAIVE_MOST: usize = 64;
 
 const OFFSETS: [usize; 11] = [0, 1, 7, 8, 9, 15, 16, 17, 31, 32, 33];
-const PERIODS: [usize; 13] = [1, 2, 3, 7, 8, 9, 15, 16, 17, 31, 32, 33, 64];
-const AGREED: [usize; 13] = [14, 15, 16, 17, 18, 30, 31, 32, 33, 34, 47, 48, 49];
+pub const PERIODS: [usize; 13] = [1, 2, 3, 7, 8, 9, 15, 16, 17, 31, 32, 33, 64];
+pub const AGREED: [usize; 13] = [14, 15, 16, 17, 18, 30, 31, 32, 33, 34, 47, 48, 49];
 const ABOVE: [usize; 21] = [7, 8, 9, 14, 15, 16, 17, 18, 30, 31, 32, 33, 34, 47, 48, 49, 63, 64, 65, 80, 81];
 
 /// A table with one entry changed, a little or to that of another place.
@@ -29,10 +30,10 @@ pub fn wrong(r: &mut Random, table: &[u16]) -> Vec<u16> {
 }
 
 fn edits_at_three_places(t: &mut Tally, r: &mut Random, w: &[u8], f: &Facts) {
-    let n = w.len();
+    let (n, order) = (w.len(), t.order.clone());
     for from in [0, n / 2, n - r.below(n.min(3))] {
         let (to, block) = (n.min(from + r.below(4)), random_block(r, w));
-        edits::compare(t, &FAST, f, &Given { pattern: w, array: &f.array, last: &f.last, from, to, block: &block });
+        edits::compare(t, &FAST, f, &f.given(w, order.ranks(), from, to, &block));
     }
 }
 
@@ -41,14 +42,16 @@ fn over_wrong_tables(t: &mut Tally, r: &mut Random, w: &[u8], f: &Facts) {
     let position = r.below(w.len() + 1);
     calls::part(t, &FAST, w, f, Side::Prefix, &last, position);
     calls::part(t, &FAST, w, f, Side::Suffix, &array, position);
-    let given = |array, last| Given { pattern: w, array, last, from: position, to: w.len(), block: &[] };
-    edits::compare(t, &FAST, f, &given(&array, &f.last));
-    edits::compare(t, &FAST, f, &given(&f.array, &last));
+    let order = t.order.clone();
+    let given = f.given(w, order.ranks(), position, w.len(), &[]);
+    edits::compare(t, &FAST, f, &Given { array: &array, ..given });
+    edits::compare(t, &FAST, f, &Given { last: &last, ..given });
 }
 
-/// All calls on a word of at least a byte, and edits.
-pub fn examine(t: &mut Tally, w: &[u8], r: &mut Random) {
-    let f = if w.len() <= NAIVE_MOST { short::facts(t, w) } else { (FAST.facts)(w) };
+/// All calls on the word of at least one rank, and edits.
+pub fn examine(t: &mut Tally, ranks: &[u8], r: &mut Random) {
+    let (w, order) = (&t.order.spelled(ranks)[..], t.order.clone());
+    let f = if w.len() <= NAIVE_MOST { short::facts(t, w) } else { (FAST.facts)(w, order.ranks()) };
     let positions = [r.below(w.len() + 1)];
     calls::word(t, &FAST, w, &f, &positions);
     edits_at_three_places(t, r, w, &f);
@@ -66,7 +69,7 @@ pub fn lengths(t: &mut Tally, r: &mut Random) {
 }
 
 /// Bytes before a word whose first byte is c: factors of their own, or a smaller byte and then bytes above it, which take the word in.
-fn lead(r: &mut Random, c: u8, length: usize) -> Vec<u8> {
+pub fn lead(r: &mut Random, c: u8, length: usize) -> Vec<u8> {
     let above = if r.below(2) == 0 { 0xFF } else { c + 1 };
     let mut lead = vec![above; length];
     if length > 0 && r.below(3) == 0 {
@@ -82,7 +85,7 @@ fn above(r: &mut Random, c: u8, length: usize) -> Vec<u8> {
 }
 
 /// A Lyndon word of a length: its first byte and bytes above it, or its first byte over and over and then one above it.
-fn period(r: &mut Random, c: u8, length: usize) -> Vec<u8> {
+pub fn period(r: &mut Random, c: u8, length: usize) -> Vec<u8> {
     if r.below(2) == 0 {
         return [&[c], &above(r, c, length - 1)[..]].concat();
     }
@@ -91,7 +94,7 @@ fn period(r: &mut Random, c: u8, length: usize) -> Vec<u8> {
     word
 }
 
-fn tail(r: &mut Random, w: &[u8]) -> Vec<u8> {
+pub fn tail(r: &mut Random, w: &[u8]) -> Vec<u8> {
     let length = [0, 1, 15, 16, 17, 33][r.below(6)];
     if r.below(2) == 0 { r.letters(w, length) } else { w.iter().copied().cycle().take(length).collect() }
 }
@@ -104,10 +107,12 @@ fn ways(r: &mut Random, word: &[u8], agreed: usize) -> [Vec<u8>; 3] {
     [go_on(r, next - 1), go_on(r, next.saturating_add(1)), repeated.clone()]
 }
 
+/// Twice each in byte order.
 pub fn agreements(t: &mut Tally, r: &mut Random) {
+    let times = 1 + t.share(1);
     for offset in OFFSETS {
         for length in PERIODS {
-            for agreed in AGREED.into_iter().flat_map(|agreed| [agreed; 2]) {
+            for agreed in AGREED.into_iter().flat_map(|agreed| vec![agreed; times]) {
                 let c = [1, 0x7F, 0x80, 0x61][r.below(4)];
                 let (lead, word) = (lead(r, c, offset), period(r, c, length));
                 ways(r, &word, agreed).iter().for_each(|w| examine(t, &[&lead[..], w].concat(), r));
@@ -163,7 +168,7 @@ fn opening(r: &mut Random, c: u8, length: usize) -> Vec<u8> {
 
 /// Behind an opening of up to 140 bytes a stretch above its first byte or the opening again, up to a place at which it differs.
 pub fn behind_openings(t: &mut Tally, r: &mut Random, count: usize) {
-    for k in 0..count {
+    for k in 0..t.share(count) {
         let c = [1, 0x7F, 0x80, 0x61][r.below(4)];
         let length = 3 + r.below(138);
         let offset = r.below(20);

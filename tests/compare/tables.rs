@@ -1,11 +1,13 @@
-//! Tables that are not the pattern's: one entry changed, at each place and to several values, and rows that are too short.
+//! Tables that are not the pattern's: one entry changed, at each place and to several values, rows that are too short, and the tables under
+//! another order.
 use crate::calls::{self, Side};
 use crate::edits;
 use crate::engine::Given;
 use crate::oracle::NAIVE;
+use crate::ranks::three_orders;
 use crate::right::Facts;
 use crate::short::{every_word, facts};
-use crate::tally::Tally;
+use crate::tally::{Random, Tally};
 
 /// The table with one entry changed, in each way tried.
 fn changed(table: &[u16]) -> Vec<Vec<u16>> {
@@ -38,9 +40,9 @@ fn parts(t: &mut Tally, w: &[u8], f: &Facts) {
 }
 
 fn edit_with(t: &mut Tally, w: &[u8], f: &Facts, array: &[u16], last: &[u16]) {
-    let n = w.len();
+    let (n, order) = (w.len(), t.order.clone());
     for (from, to, block) in [(0, 0, &w[..0]), (n / 2, n, &[1]), (0, n, w), (n, n, &[0xFF])] {
-        edits::compare(t, &NAIVE, f, &Given { pattern: w, array, last, from, to, block });
+        edits::compare(t, &NAIVE, f, &Given { array, last, ..f.given(w, order.ranks(), from, to, block) });
     }
 }
 
@@ -60,8 +62,27 @@ fn edited(t: &mut Tally, w: &[u8], f: &Facts) {
     }
 }
 
+/// The tables that the words have under other orders: they are refused where they differ. Both must come up.
+pub fn of_other_orders(t: &mut Tally, r: &mut Random, letters: &[u8], length: usize) {
+    let (mut seen, order) = ([0; 2], t.order.clone());
+    for other in three_orders(r).iter().filter(|other| other.ranks() != order.ranks()) {
+        for w in every_word(&order.spelled(letters), length) {
+            t.words += 1;
+            let (f, o) = (facts(t, &w), (NAIVE.facts)(&w, other.ranks()));
+            seen[usize::from((&f.array, &f.last) == (&o.array, &o.last))] += 1;
+            for side in [Side::Prefix, Side::Suffix] {
+                (0..=w.len() + 1).for_each(|position| calls::part(t, &NAIVE, &w, &f, side, side.table(&o), position));
+            }
+            for (array, last) in [(&o.array, &f.last), (&f.array, &o.last), (&o.array, &o.last)] {
+                edit_with(t, &w, &f, array, last);
+            }
+        }
+    }
+    t.check(seen.iter().all(|&count| count > 0), || format!("other tables, the same tables: {seen:?} words"));
+}
+
 pub fn wrong(t: &mut Tally, letters: &[u8], length: usize) {
-    for w in every_word(letters, length) {
+    for w in every_word(&t.order.spelled(letters), length) {
         t.words += 1;
         let f = facts(t, &w);
         parts(t, &w, &f);

@@ -1,11 +1,14 @@
 //! What was run and what went wrong, part by part; and the random numbers.
+use crate::ranks::Order;
 use std::fmt;
+use std::rc::Rc;
 
 /// Failed cases of one part that are printed; the others are only counted.
 const SHOWN: usize = 10;
 
-#[derive(Default)]
 pub struct Tally {
+    /// The order that the calls are given.
+    pub order: Rc<Order>,
     pub words: usize,
     edits: usize,
     accepted: usize,
@@ -16,6 +19,22 @@ pub struct Tally {
 }
 
 impl Tally {
+    fn new(order: Rc<Order>) -> Tally {
+        Tally { order, words: 0, edits: 0, accepted: 0, checks: 0, failures: 0, origin: String::new() }
+    }
+
+    /// The same tally goes on under another order, and then under the one before.
+    pub fn under(&mut self, order: &Rc<Order>, body: impl FnOnce(&mut Tally)) {
+        let before = std::mem::replace(&mut self.order, order.clone());
+        body(self);
+        self.order = before;
+    }
+
+    /// How many of so many drawn cases are made: all in byte order, half of them in another.
+    pub fn share(&self, count: usize) -> usize {
+        if self.order.is_byte_order() { count } else { count / 2 }
+    }
+
     pub fn edit(&mut self, accepted: bool) {
         self.edits += 1;
         self.accepted += usize::from(accepted);
@@ -28,7 +47,7 @@ impl Tally {
         }
         self.failures += 1;
         if self.failures <= SHOWN {
-            println!("WRONG: {}{}", self.origin, case());
+            println!("WRONG: {}, {}{}", self.order.name, self.origin, case());
         }
     }
 
@@ -37,21 +56,39 @@ impl Tally {
     }
 }
 
-/// Counts parts, and prints a line for each.
-#[derive(Default)]
+/// Counts parts, and prints a line for each. The first of the orders is byte order.
 pub struct Run {
+    orders: [Rc<Order>; 3],
     passed: usize,
     failed: usize,
 }
 
 impl Run {
-    pub fn part(&mut self, name: &str, body: impl FnOnce(&mut Tally)) {
-        let mut t = Tally::default();
-        body(&mut t);
+    pub fn new(orders: [Rc<Order>; 3]) -> Run {
+        Run { orders, passed: 0, failed: 0 }
+    }
+
+    /// A part under each of the orders.
+    pub fn part(&mut self, name: &str, body: impl FnMut(&mut Tally)) {
+        self.under(self.orders.len(), name, body);
+    }
+
+    /// A part in byte order alone.
+    pub fn in_byte_order(&mut self, name: &str, body: impl FnMut(&mut Tally)) {
+        self.under(1, name, body);
+    }
+
+    fn under(&mut self, orders: usize, name: &str, mut body: impl FnMut(&mut Tally)) {
+        let mut t = Tally::new(self.orders[0].clone());
+        for order in &self.orders[..orders] {
+            t.origin.clear();
+            t.under(order, &mut body);
+        }
         let Tally { words, edits, accepted, checks, failures, .. } = t;
         let good = failures == 0 && checks > 0;
         let verdict = if good { "ok".to_string() } else { format!("FAILED in {failures}") };
-        println!("{name}: {words} words, {edits} edits ({accepted} accepted), {checks} checks: {verdict}");
+        let under = if orders == 1 { "in byte order" } else { "under three orders" };
+        println!("{name}: {words} words, {edits} edits ({accepted} accepted), {checks} checks {under}: {verdict}");
         self.passed += usize::from(good);
         self.failed += usize::from(!good);
     }

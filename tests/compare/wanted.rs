@@ -9,31 +9,34 @@ use crate::short::{every_word, random_of};
 use crate::tally::{Random, Tally, brief, show};
 use std::collections::HashSet;
 
+/// How the reach table of a pattern under an order is told.
+pub type Reach = fn(&[u8], &[u8]) -> Vec<u16>;
+
 /// A call with one buffer; `had` says whether a pattern has the table, and `reach` tells the table of the one written.
-pub fn one(t: &mut Tally, wanted: &[u16], had: bool, room: usize, reach: fn(&[u8]) -> Vec<u16>) {
-    let n = wanted.len();
+pub fn one(t: &mut Tally, wanted: &[u16], had: bool, room: usize, reach: Reach) {
+    let (n, order) = (wanted.len(), t.order.clone());
     let table = Lent::holding(wanted);
     let mut buffer = Lent::<u8>::blank(room);
-    let got = engine::realise_array(table.contents(), buffer.row());
-    let number = wanted_holds(n, had).and(8, room < n).first();
+    let got = engine::realise_array(table.contents(), order.ranks(), buffer.row());
+    let number = wanted_holds(n, order.ranks(), had).and(8, room < n).first();
     let case = || format!("realise_array of {}, buffer of {room}", brief(wanted));
     t.equal(&got, &(number, [if number == 0 { n } else { 0 }, 0]), case);
     let pattern = if number == 0 { buffer.contents()[..n].to_vec() } else { vec![] };
     if number == 0 {
-        t.check(reach(&pattern) == wanted, || format!("{}: {} has another table", case(), show(&pattern)));
+        t.check(reach(&pattern, order.ranks()) == wanted, || format!("{}: {} has another table", case(), show(&pattern)));
     }
     t.check(buffer.holds(&pattern), || format!("{}: bytes behind the pattern were changed", case()));
-    t.check(table.unchanged(), || format!("{}: the table was changed", case()));
+    t.check(table.unchanged() && order.unchanged(), || format!("{}: the table or the order was changed", case()));
 }
 
 /// Buffers too short, exact and longer.
-fn buffers(t: &mut Tally, wanted: &[u16], had: bool, reach: fn(&[u8]) -> Vec<u16>) {
+fn buffers(t: &mut Tally, wanted: &[u16], had: bool, reach: Reach) {
     for room in lengths(wanted.len()) {
         one(t, wanted, had, room, reach);
     }
 }
 
-/// Six letters, in the order of unsigned bytes.
+/// The ranks of six letters.
 const LETTERS: [u8; 6] = [0, 1, 0x7F, 0x80, 0xC0, 0xFF];
 
 /// Calls `each` with every table of n entries from the given ones.
@@ -51,8 +54,8 @@ fn every_table(entries: &[u16], n: usize, each: &mut impl FnMut(&[u16])) {
 /// over n letters have all tables there are.
 pub fn short(t: &mut Tally, length: usize) {
     for n in 0..=length {
-        let words: Vec<_> = every_word(&LETTERS[..n], n).into_iter().filter(|w| w.len() == n).collect();
-        let tables: HashSet<Vec<u16>> = words.iter().map(|w| oracle::reach(w)).collect();
+        let words: Vec<_> = every_word(&t.order.spelled(&LETTERS[..n]), n).into_iter().filter(|w| w.len() == n).collect();
+        let tables: HashSet<Vec<u16>> = words.iter().map(|w| oracle::reach(w, t.order.ranks())).collect();
         t.words += words.len();
         let entries: Vec<u16> = (0..=n as u16 + 1).chain([0xFFFF]).collect();
         every_table(&entries, n, &mut |wanted| {
@@ -91,19 +94,24 @@ fn length(r: &mut Random) -> usize {
     if r.below(4) == 0 { r.below(WANTED_LIMIT + 2) } else { WANTED_LIMIT }
 }
 
+/// The table of the pattern of these ranks, and tables next to it.
+fn of_pattern(t: &mut Tally, r: &mut Random, origin: String, ranks: &[u8]) {
+    t.words += 1;
+    let table = fast::reach(&t.order.spelled(ranks), t.order.ranks());
+    around(t, r, origin, &table);
+}
+
 /// Tables of patterns.
 pub fn random(t: &mut Tally, r: &mut Random, count: usize) {
     for n in [WANTED_LIMIT - 1, WANTED_LIMIT, WANTED_LIMIT + 1] {
         for (family, w) in families(n, r) {
-            t.words += 1;
-            around(t, r, format!("{family}, {n} bytes"), &fast::reach(&w));
+            of_pattern(t, r, format!("{family}, {n} bytes"), &w);
         }
     }
-    for _ in 0..count {
+    for k in 0..t.share(count) {
         let n = length(r);
         let w = random_of(r, n);
-        t.words += 1;
-        around(t, r, format!("the table of {}", show(&w)), &fast::reach(&w));
+        of_pattern(t, r, format!("random pattern {k}"), &w);
     }
 }
 
@@ -123,7 +131,7 @@ fn nested(r: &mut Random, n: usize, odds: usize) -> Vec<u16> {
 
 /// Tables drawn as such, from those with short stretches to those in which most go to the end.
 pub fn drawn(t: &mut Tally, r: &mut Random, count: usize) {
-    for k in 0..count {
+    for k in 0..t.share(count) {
         let n = length(r);
         let odds = [2, 3, 8, 64, 1024][k % 5];
         let table = nested(r, n, odds);

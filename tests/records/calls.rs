@@ -2,10 +2,12 @@
 //! Each row is lent out of a longer one, whose rest must stay. How Rust declares and calls it is in ../compare/engine.rs.
 use crate::engine::{self, EditAnswer, Given, Group};
 use crate::naive::{self, Answer};
+use crate::orders::{byte_order, spelled};
 
 #[derive(Clone)]
 pub struct Edit {
     pub pattern: Vec<u8>,
+    pub order: Vec<u8>,
     pub array: Vec<u16>,
     pub last: Vec<u16>,
     pub from: usize,
@@ -14,23 +16,35 @@ pub struct Edit {
 }
 
 impl Edit {
-    /// With both tables as defined.
-    pub fn new(pattern: &[u8], from: usize, to: usize, block: &[u8]) -> Edit {
-        let (array, last) = (naive::lyndon_array(pattern), naive::last_factors(pattern));
-        Edit { pattern: pattern.to_vec(), array, last, from, to, block: block.to_vec() }
+    /// Under an order, with both tables as defined.
+    pub fn under(order: &[u8], pattern: &[u8], from: usize, to: usize, block: &[u8]) -> Edit {
+        let (array, last) = (naive::lyndon_array(pattern, order), naive::last_factors(pattern, order));
+        Edit { pattern: pattern.to_vec(), order: order.to_vec(), array, last, from, to, block: block.to_vec() }
     }
 
-    /// Of the letter `a` repeated: every entry of both tables is 1.
+    /// In byte order.
+    pub fn new(pattern: &[u8], from: usize, to: usize, block: &[u8]) -> Edit {
+        Edit::under(&byte_order(), pattern, from, to, block)
+    }
+
+    /// Of the letter `a` repeated, in byte order: every entry of both tables is 1.
     pub fn of_equal(n: usize, from: usize, to: usize, block: &[u8]) -> Edit {
-        Edit { pattern: vec![b'a'; n], array: vec![1; n], last: vec![1; n], from, to, block: block.to_vec() }
+        let (order, ones) = (byte_order(), vec![1; n]);
+        Edit { pattern: vec![b'a'; n], order, array: ones.clone(), last: ones, from, to, block: block.to_vec() }
+    }
+
+    /// The bytes of an edit in byte order taken as ranks of this order: both tables and the answer are the same.
+    pub fn renamed(&self, order: &[u8]) -> Edit {
+        let (pattern, block) = (spelled(&self.pattern, order), spelled(&self.block, order));
+        Edit { pattern, order: order.to_vec(), block, ..self.clone() }
     }
 
     pub fn answer(&self) -> Answer {
-        naive::answer(&self.pattern, self.from, self.to, &self.block)
+        naive::answer(&self.pattern, &self.order, self.from, self.to, &self.block)
     }
 
     fn given(&self) -> Given<'_> {
-        Given { pattern: &self.pattern, array: &self.array, last: &self.last, from: self.from, to: self.to, block: &self.block }
+        Given { pattern: &self.pattern, order: &self.order, array: &self.array, last: &self.last, from: self.from, to: self.to, block: &self.block }
     }
 }
 

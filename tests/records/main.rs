@@ -1,12 +1,14 @@
-//! Tries `lyndon_edit` as a Rust program calls it (`calls.rs`), and compares with the trainer's sheet or with the definitions computed
-//! naively (`naive.rs`).
+//! Tries `lyndon_edit` as a Rust program calls it (`calls.rs`), in byte order and others (`orders.rs`), and compares with the trainer's sheet or
+//! with the definitions computed naively (`naive.rs`).
 mod calls;
 #[allow(dead_code)]
 #[path = "../compare/engine.rs"]
 mod engine;
 mod naive;
+mod orders;
 use calls::{Edit, holds};
 use naive::Answer;
+use orders::{Chance, byte_order, no_orders, orders};
 
 #[derive(Default)]
 struct Tally {
@@ -24,8 +26,15 @@ impl Tally {
         }
     }
 
-    /// An accepted edit, with rows one too short, exact, and longer, and with longer tables.
+    /// An accepted edit in byte order, and with its bytes renamed under other orders.
     fn accepts(&mut self, name: &str, e: &Edit, want: Answer) {
+        for (order, ranks) in orders() {
+            self.accepts_one(&format!("{name}, {order}"), &e.renamed(&ranks), want.clone());
+        }
+    }
+
+    /// With rows one too short, exact, and longer, and with longer tables.
+    fn accepts_one(&mut self, name: &str, e: &Edit, want: Answer) {
         let (groups, places) = (want.middle.len(), want.starts.len());
         let want = Ok(want);
         self.check(name, "exact rows", holds(e, groups, places, &want));
@@ -43,8 +52,18 @@ impl Tally {
         self.check(name, "longer tables", holds(&longer, groups, places, &want));
     }
 
-    /// A refused edit, with rows that are long enough for any result and with empty ones.
+    /// A refused edit in byte order, and with its bytes renamed under other orders; with what is no order 13 goes before its number.
     fn refuses(&mut self, name: &str, e: &Edit, number: u8) {
+        for (order, ranks) in orders() {
+            self.refuses_one(&format!("{name}, {order}"), &e.renamed(&ranks), number);
+        }
+        for (order, ranks) in no_orders() {
+            self.refuses_one(&format!("{name}, {order}"), &Edit { order: ranks, ..e.clone() }, 13);
+        }
+    }
+
+    /// With rows that are long enough for any result and with empty ones.
+    fn refuses_one(&mut self, name: &str, e: &Edit, number: u8) {
         self.check(name, "long rows", holds(e, 272, LIMIT, &Err(number)));
         self.check(name, "empty rows", holds(e, 0, 0, &Err(number)));
     }
@@ -75,7 +94,7 @@ fn sheet(t: &mut Tally) {
     }
 }
 
-/// Edits at both ends, of the empty pattern, of the whole pattern, of bytes that differ as signed numbers, with many groups.
+/// Edits at both ends, of the empty pattern, of the whole pattern, of bytes whose ranks differ as signed numbers, with many groups.
 fn places(t: &mut Tally) {
     let falling: Vec<u8> = (0..=255).rev().collect();
     let edits: [(&str, &[u8], usize, usize, &[u8]); 14] = [
@@ -147,8 +166,33 @@ fn refusals(t: &mut Tally) {
     t.check("a right edit", "empty rows", holds(&right, 0, 0, &Err(8)));
 }
 
+/// A right edit with what is no order, and with either table of another order.
+fn other_orders(t: &mut Tally) {
+    for (name, order) in no_orders() {
+        t.refuses_one(name, &Edit { order, ..Edit::new(S, 5, 6, b"b") }, 13);
+    }
+    for (name, ranks) in orders() {
+        let right = Edit::under(&ranks, S, 5, 6, b"b");
+        t.accepts_one(&format!("{name} of the same bytes"), &right, right.answer());
+        for (other, ranks) in orders().into_iter().filter(|(other, _)| *other != name) {
+            let Edit { array, last, .. } = Edit::under(&ranks, S, 5, 6, b"b");
+            t.refuses_one(&format!("{name}, first table of {other}"), &Edit { array, ..right.clone() }, 5);
+            t.refuses_one(&format!("{name}, second table of {other}"), &Edit { last, ..right.clone() }, 5);
+        }
+    }
+}
+
+/// Byte order with two neighbours exchanged, for each two, on a pattern of these two.
+fn neighbours(t: &mut Tally) {
+    for low in 0..255 {
+        let (mut order, high) = (byte_order(), low + 1);
+        order.swap(low as usize, high as usize);
+        t.check("neighbours exchanged", &low.to_string(), exact(&Edit::under(&order, &[high, low, high, high], 1, 2, &[low, low])));
+    }
+}
+
 /// Of several refusals that hold the first is answered: each edit here has all the later ones too.
-fn order(t: &mut Tally) {
+fn first_refusal(t: &mut Tally) {
     let bare = |n, from, to, block: usize| Edit { array: vec![], last: vec![], ..Edit::of_equal(n, from, to, &vec![b'b'; block]) };
     let edits = [
         (1, bare(LIMIT + 1, usize::MAX, 0, 257)),
@@ -160,6 +204,9 @@ fn order(t: &mut Tally) {
     ];
     for (number, e) in edits {
         t.check("the first refusal", &number.to_string(), holds(&e, 0, 0, &Err(number)));
+        for (name, order) in no_orders() {
+            t.check("the first refusal, 13", name, holds(&Edit { order, ..e.clone() }, 0, 0, &Err(13)));
+        }
     }
 }
 
@@ -177,37 +224,41 @@ fn words(letters: &[u8], n: usize) -> Vec<Vec<u8>> {
     all
 }
 
-/// Every edit of every short pattern, and random ones of longer patterns, with exact rows: a pattern is one check.
+/// The edit with exact rows.
+fn exact(e: &Edit) -> bool {
+    let want = e.answer();
+    holds(e, want.middle.len(), want.starts.len(), &Ok(want))
+}
+
+/// Every edit of every short pattern under each order: a pattern is one check.
 fn sweep(t: &mut Tally) {
-    let exact = |e: &Edit| {
-        let want = e.answer();
-        holds(e, want.middle.len(), want.starts.len(), &Ok(want))
-    };
-    for pattern in words(b"ab", 5) {
-        let plain = Edit::new(&pattern, 0, 0, b"");
-        let n = pattern.len();
-        let ok = (0..=n).all(|from| (from..=n).all(|to| words(b"ab", 2).into_iter().all(|block| exact(&Edit { from, to, block, ..plain.clone() }))));
-        t.check(&format!("{pattern:?}"), "every edit", ok);
+    for (name, order) in orders() {
+        for pattern in words(b"ab", 5) {
+            let plain = Edit::under(&order, &pattern, 0, 0, b"");
+            let n = pattern.len();
+            let every = |from, to| words(b"ab", 2).into_iter().all(|block| exact(&Edit { from, to, block, ..plain.clone() }));
+            t.check(&format!("{pattern:?}, {name}"), "every edit", (0..=n).all(|from| (from..=n).all(|to| every(from, to))));
+        }
     }
-    let mut state = 1u64;
-    let mut below = |n: usize| {
-        state = state.wrapping_mul(6364136223846793005).wrapping_add(1442695040888963407);
-        (state >> 33) as usize % n
-    };
-    for i in 0..300 {
+}
+
+/// Random edits, half of them in byte order and each other one under an order of its own.
+fn random(t: &mut Tally) {
+    let mut chance = Chance(1);
+    for i in 0..600 {
         let letters = [2, 3, 256][i % 3];
-        let (n, block) = (below(60), below(12));
-        let pattern: Vec<u8> = (0..n).map(|_| below(letters) as u8).collect();
-        let block: Vec<u8> = (0..block).map(|_| below(letters) as u8).collect();
-        let from = below(n + 1);
-        let e = Edit::new(&pattern, from, from + below(n - from + 1), &block);
+        let order = if i % 2 == 0 { byte_order() } else { chance.order() };
+        let (n, block) = (chance.below(60), chance.below(12));
+        let (pattern, block) = (chance.word(n, letters), chance.word(block, letters));
+        let from = chance.below(n + 1);
+        let e = Edit::under(&order, &pattern, from, from + chance.below(n - from + 1), &block);
         t.check(&format!("{pattern:?}"), "a random edit", exact(&e));
     }
 }
 
 fn main() {
     let mut t = Tally::default();
-    for part in [sheet, places, limits, refusals, order, sweep] {
+    for part in [sheet, places, limits, refusals, other_orders, neighbours, first_refusal, sweep, random] {
         part(&mut t);
     }
     println!("{} passed, {} failed", t.passed, t.failed);

@@ -1,5 +1,5 @@
-/* Measures the stack that each function of lyndon.h touches, over strings of eleven families, prints a table, and holds each to a bound.
- * What the functions answer is left to the other tests; the two programs are left to programs.py. */
+/* Measures the stack that each function of lyndon.h touches, over strings of eleven families in byte order and the reverse, prints a table, and
+ * holds each to a bound. What the functions answer is left to the other tests; the two programs are left to programs.py. */
 #include "families.h"
 #include "painted.h"
 
@@ -14,6 +14,7 @@
 
 /* What a run is given and where its results go; static, so that only the call is on the stack. */
 static struct {
+    uint8_t order[LYNDON_ORDER], ranks[LYNDON_ORDER];
     uint8_t pattern[N], block[LYNDON_MAX_BLOCK], text[LYNDON_MAX_LISTING], definite[LYNDON_MAX_DEFINITE_BLOCK];
     uint16_t array[N], last[N], row[3 * N], starts[N];
     lyndon_group middle[LYNDON_MAX_MIDDLE];
@@ -23,61 +24,77 @@ static struct {
     lyndon_edit_answer answer;
 } g;
 
+/* The order's two arguments, and those of the pattern under it. */
+#define ORDER g.order, LYNDON_ORDER
+#define PATTERN g.pattern, g.n, ORDER
+
+static void run_interface(void) {
+    g.refusal = lyndon_interface() != LYNDON_INTERFACE;
+}
+
+static void run_edit_interface(void) {
+    g.refusal = lyndon_edit_interface() != LYNDON_INTERFACE;
+}
+
+static void run_byte_order(void) {
+    g.refusal = lyndon_byte_order(g.ranks, LYNDON_ORDER, &g.count);
+}
+
 static void run_factor(void) {
-    g.refusal = lyndon_factor(g.pattern, g.n, g.row, 3 * N, &g.count);
+    g.refusal = lyndon_factor(PATTERN, g.row, 3 * N, &g.count);
 }
 
 static void run_array(void) {
-    g.refusal = lyndon_array(g.pattern, g.n, g.row, N, &g.count);
+    g.refusal = lyndon_array(PATTERN, g.row, N, &g.count);
 }
 
 static void run_last_factors(void) {
-    g.refusal = lyndon_last_factors(g.pattern, g.n, g.row, N, &g.count);
+    g.refusal = lyndon_last_factors(PATTERN, g.row, N, &g.count);
 }
 
 static void run_realise_array(void) {
-    g.refusal = lyndon_realise_array(g.array, g.n, g.text, LYNDON_MAX_WANTED, &g.count);
+    g.refusal = lyndon_realise_array(g.array, g.n, ORDER, g.text, LYNDON_MAX_WANTED, &g.count);
 }
 
 static void run_longest_words(void) {
-    g.refusal = lyndon_longest_words(g.pattern, g.n, g.row, N, &g.size, &g.count);
+    g.refusal = lyndon_longest_words(PATTERN, g.row, N, &g.size, &g.count);
 }
 
 /* It has no number; no pattern here is empty, so where no word is told the pattern was too long. */
 static void run_longest_word(void) {
-    lyndon_longest_word(g.pattern, g.n, &g.count, &g.size);
+    lyndon_longest_word(PATTERN, &g.count, &g.size);
     g.refusal = g.size > 0 ? LYNDON_ACCEPTED : LYNDON_PATTERN_TOO_LONG;
 }
 
 static void run_is_lyndon(void) {
-    g.refusal = lyndon_is_lyndon(g.pattern, g.n, &g.yes);
+    g.refusal = lyndon_is_lyndon(PATTERN, &g.yes);
 }
 
 static void run_least_rotation(void) {
-    g.refusal = lyndon_least_rotation(g.pattern, g.n, &g.count);
+    g.refusal = lyndon_least_rotation(PATTERN, &g.count);
     if (g.refusal == LYNDON_REPEATED) g.refusal = 0;
 }
 
 static void run_tree(void) {
-    g.refusal = lyndon_tree(g.pattern, g.n, g.row, 3 * N, &g.count);
+    g.refusal = lyndon_tree(PATTERN, g.row, 3 * N, &g.count);
     if (g.refusal == LYNDON_NOT_LYNDON) g.refusal = 0;
 }
 
 static void run_prefix(void) {
-    g.refusal = lyndon_factor_prefix(g.pattern, g.n, g.last, g.n, g.row, 3 * N, g.to, &g.count);
+    g.refusal = lyndon_factor_prefix(PATTERN, g.last, g.n, g.row, 3 * N, g.to, &g.count);
 }
 
 static void run_suffix(void) {
-    g.refusal = lyndon_factor_suffix(g.pattern, g.n, g.array, g.n, g.row, 3 * N, g.from, &g.count);
+    g.refusal = lyndon_factor_suffix(PATTERN, g.array, g.n, g.row, 3 * N, g.from, &g.count);
 }
 
 /* With itself, where the stretch starts at the front; with its second half, its last quarter and the empty string. */
 static void run_compare(void) {
-    g.refusal = lyndon_compare(g.pattern, g.n, g.pattern + g.from, g.n - g.from, &g.size, &g.smaller);
+    g.refusal = lyndon_compare(g.pattern, g.n, g.pattern + g.from, g.n - g.from, ORDER, &g.size, &g.smaller);
 }
 
 static void run_listing(void) {
-    g.refusal = lyndon_write_listing(g.pattern, g.n, g.text, LYNDON_MAX_LISTING, &g.count);
+    g.refusal = lyndon_write_listing(PATTERN, g.text, LYNDON_MAX_LISTING, &g.count);
 }
 
 static void run_read_block(void) {
@@ -89,7 +106,7 @@ static void run_write_block(void) {
 }
 
 static void run_edit(void) {
-    g.answer = lyndon_edit(g.pattern, g.n, g.array, g.n, g.last, g.n, g.from, g.to, g.block, g.block_n, g.middle, LYNDON_MAX_MIDDLE,
+    g.answer = lyndon_edit(PATTERN, g.array, g.n, g.last, g.n, g.from, g.to, g.block, g.block_n, g.middle, LYNDON_MAX_MIDDLE,
                            g.starts, N);
     g.refusal = g.answer.refusal;
 }
@@ -104,6 +121,9 @@ typedef struct {
 } row;
 
 static const row rows[] = {
+    { "lyndon_interface", run_interface, N, 1024, 0 },
+    { "lyndon_edit_interface", run_edit_interface, N, 1024, 0 },
+    { "lyndon_byte_order", run_byte_order, N, 1024, 0 },
     { "lyndon_factor", run_factor, N, 1024, 0 },
     { "lyndon_array", run_array, N, 3072, 128 },
     { "lyndon_last_factors", run_last_factors, N, 1024, 0 },
@@ -138,17 +158,35 @@ static size_t refused(const row *r, size_t n, size_t which) {
     return SIZE_MAX;
 }
 
-/* The deepest of all families and stretches for strings of n bytes. */
+/* Byte order or the reverse. */
+static void order(size_t which) {
+    for (size_t k = 0; k < LYNDON_ORDER; k++) g.order[k] = (uint8_t)(which == 0 ? k : LYNDON_ORDER - 1 - k);
+}
+
+/* The string whose ranks are those of a family: in both orders entry r is the byte of rank r, too. */
+static void spell(size_t which, uint8_t *at, size_t n) {
+    family(which, at, n);
+    for (size_t k = 0; k < n; k++) at[k] = g.order[at[k]];
+}
+
+/* The pattern with its tables and its definite length block. */
+static void prepare(size_t which, size_t n) {
+    spell(which, g.pattern, n);
+    g.n = n;
+    if (lyndon_array(PATTERN, g.array, N, &g.count) != 0 || lyndon_last_factors(PATTERN, g.last, N, &g.count) != 0) abort();
+    if (lyndon_write_block(g.pattern, n, g.definite, LYNDON_MAX_DEFINITE_BLOCK, &g.definite_n) != 0) abort();
+}
+
+/* The deepest of both orders, all families and stretches for strings of n bytes. */
 static size_t deepest(const row *r, size_t n) {
     size_t most = 0;
-    for (size_t which = 0; which < FAMILIES; which++) {
-        family(which, g.pattern, n);
-        g.n = n;
-        if (lyndon_array(g.pattern, n, g.array, N, &g.count) != 0 || lyndon_last_factors(g.pattern, n, g.last, N, &g.count) != 0) abort();
-        if (lyndon_write_block(g.pattern, n, g.definite, LYNDON_MAX_DEFINITE_BLOCK, &g.definite_n) != 0) abort();
+    for (size_t k = 0; k < 2 * FAMILIES; k++) {
+        size_t which = k % FAMILIES;
+        order(k / FAMILIES);
+        prepare(which, n);
         for (size_t s = 0; s < 5; s++) {
             stretch(s);
-            family((which + s) % FAMILIES, g.block, LYNDON_MAX_BLOCK);
+            spell((which + s) % FAMILIES, g.block, LYNDON_MAX_BLOCK);
             size_t used = touched(r->run);
             if (g.refusal != 0) return refused(r, n, which);
             if (used > most) most = used;

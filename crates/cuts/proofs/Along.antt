@@ -17,6 +17,8 @@ use Rattle.words.proofs.Factors.{factors-falling}
 use Rattle.words.proofs.EditParts.{end-apart, end-all, end-next, factors-after}
 use Rattle.words.proofs.Stored.{stored-long, stored-entry}
 use Rattle.words.proofs.Tables.{chain-suffix, longest-at-some, longest-at-fits, lyndon-array-length}
+use Rattle.ranks.specs.Ranks.{ranked}
+use Rattle.ranks.proofs.Ranked.{length-ranked}
 use Rattle.scan.specs.Group.{NextGroup}
 use Rattle.scan.proofs.Next.{next-words}
 use Rattle.cuts.specs.declared.Ends.{Ends}
@@ -145,18 +147,24 @@ module _ {t : List ℕ} {q i : ℕ} {ends : Ends} (c : Counted t q i ends) where
       go (inr k) = c .past k
 
 -- the entry of a stored Lyndon array
-module _ (s table : List ℕ) (i : ℕ) (e : take (length s) table ≡ lyndonArray s) (h : i < length s) where
-  pub entry-within : i < length table
-  entry-within = omega (arith, stored-long (length s) table (lyndonArray s) (lyndon-array-length s) e)
+module _ (o s table : List ℕ) (i : ℕ) (e : take (length s) table ≡ lyndonArray (ranked o s)) (h : i < length s) where
+  long : length (ranked o s) ≡ length s
+  long = length-ranked o s
 
-  entry-is : getD table i 0 ≡ longestAt s i
-  entry-is = stored-entry s table e i h
+  inside : i < length (ranked o s)
+  inside = rw long h
+
+  pub entry-within : i < length table
+  entry-within = omega (arith, stored-long (length s) table (lyndonArray (ranked o s)) (lyndon-array-length (ranked o s) ∙ long) e)
+
+  entry-is : getD table i 0 ≡ longestAt (ranked o s) i
+  entry-is = stored-entry (ranked o s) table (rw long e) i inside
 
   pub entry-fits : i + getD table i 0 ≤ length s
-  entry-fits = omega (arith, entry-is, longest-at-fits s i h)
+  entry-fits = omega (arith, entry-is, longest-at-fits (ranked o s) i inside, long)
 
   pub entry-some : 0 < getD table i 0
-  entry-some = omega (arith, entry-is, longest-at-some s i h)
+  entry-some = omega (arith, entry-is, longest-at-some (ranked o s) i inside)
 
-  pub at-entry : {count : ℕ} → At s count i → At s (count + 1) (i + getD table i 0)
-  at-entry a = rw entry-is (at-next a h)
+  pub at-entry : {count : ℕ} → At (ranked o s) count i → At (ranked o s) (count + 1) (i + getD table i 0)
+  at-entry a = rw entry-is (at-next a inside)

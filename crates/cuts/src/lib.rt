@@ -4,6 +4,7 @@ use rows::write_bytes;
 ghost use mathlib.Core.Path.{_≡_};
 ghost use Prim.Native.Nat.{_+_, _-_, _*_, _≤_, _<_};
 ghost use lib.ListN.{length, take};
+ghost use Rattle.ranks.specs.Ranks.{ranked};
 ghost use Rattle.rows.specs.Row.{written};
 ghost use Rattle.words.specs.Edit.{edited};
 ghost use Rattle.words.specs.Factors.{factors};
@@ -27,9 +28,9 @@ pub struct Ends {
 }
 
 // Of a pattern with its Lyndon array.
-pub fn stored_ends(s: &[u8], table: &[u16], q: usize) -> Ends
-    requires { ⌜ take (length (now s)) (now table) ≡ lyndonArray (now s) ⌝ }
-    ensures { λ r. ⌜ EndsBy (factors (now (s .entry))) q (r .count) (r .end) ⌝ }
+pub fn stored_ends(s: &[u8], ranks: &[u8], table: &[u16], q: usize) -> Ends
+    requires { ⌜ take (length (now s)) (now table) ≡ lyndonArray (ranked (now ranks) (now s)) ⌝ }
+    ensures { λ r. ⌜ EndsBy (factors (ranked (now (ranks .entry)) (now (s .entry)))) q (r .count) (r .end) ⌝ }
 {
     let mut count = 0;
     let mut end = 0;

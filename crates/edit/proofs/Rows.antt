@@ -8,6 +8,8 @@ use lib.Seq.{length-take-le}
 use Rattle.words.specs.Factors.{factors, startAt}
 use Rattle.words.specs.Tables.{suffixGroups, longestStarts}
 use Rattle.words.proofs.EditParts.{end-grows, end-le}
+use Rattle.ranks.specs.Ranks.{ranked}
+use Rattle.ranks.proofs.Ranked.{length-ranked}
 use Rattle.rows.specs.Row.{written, writtenAt}
 use Rattle.rows.proofs.Written.{written-append, length-written-at}
 use Rattle.longest.specs.declared.Longest.{Longest}
@@ -91,3 +93,14 @@ module _ {t : List ℕ} {end place : ℕ} (w : Between t end place) where
             let n : b ≡ 0 + length (x ++ y) = omega (arith, length-append x y) in
             e ∙ ap (writtenAt b z) front ∙ ap (λ i. writtenAt i z (writtenAt 0 (x ++ y) d)) n
             ∙ written-append 0 (x ++ y) z d (omega (arith, length-append x y, long)) ∙ ap (λ u. written u d) (append-assoc x y z ∙ sym all)
+
+-- what is asked of the bytes, where this is so of their ranks
+module _ (o s : List ℕ) {end place : ℕ} (w : Between (ranked o s) end place) where
+  fits : place ≤ length s
+  fits = omega (arith, place-fits w, length-ranked o s)
+
+  pub bytes-front : end ≡ length (take end s)
+  bytes-front = sym (length-take-le end s (omega (arith, end-fits w, fits)))
+
+  pub bytes-middle : place ≡ length (take place s)
+  bytes-middle = sym (length-take-le place s fits)

@@ -11,6 +11,8 @@ use seams::plan;
 ghost use mathlib.Core.Path.{_≡_};
 ghost use Prim.Native.Nat.{_+_, _*_, _≤_, min};
 ghost use lib.ListN.{length, take};
+ghost use Rattle.ranks.specs.Inner.{Ranks};
+ghost use Rattle.ranks.specs.Ranks.{ranked};
 ghost use Rattle.rows.specs.Row.{written};
 ghost use Rattle.words.specs.Factors.{groupNumbers};
 ghost use Rattle.words.specs.Tables.{suffixGroups, longestStarts};
@@ -51,20 +53,21 @@ pub fn count_of(a: Answer) -> usize
 // `at` of their row on; answers the place after them.
 fn write_middle(
     t: &[u8],
+    ranks: &[u8],
     end: usize,
     size: usize,
     numbers: &mut [u16],
     starts: &mut [u16],
     at: usize,
 ) -> usize
-    requires { ⌜ (length (now t) ≤ 65535) × (end ≤ length (now t)) × (3 * length (suffixGroups (now t) end) ≤ length (now numbers)) × (at + length (startsOf size (suffixGroups (now t) end)) ≤ length (now starts)) ⌝ }
-    ensures { λ r. ⌜ WritesMiddle (now (t .entry)) end size (now (numbers .entry)) (now (numbers .exit)) (now (starts .entry)) (now (starts .exit)) at r ⌝ }
+    requires { ⌜ Ranks (now ranks) × (length (now t) ≤ 65535) × (end ≤ length (now t)) × (3 * length (suffixGroups (ranked (now ranks) (now t)) end) ≤ length (now numbers)) × (at + length (startsOf size (suffixGroups (ranked (now ranks) (now t)) end)) ≤ length (now starts)) ⌝ }
+    ensures { λ r. ⌜ WritesMiddle (ranked (now (ranks .entry)) (now (t .entry))) end size (now (numbers .entry)) (now (numbers .exit)) (now (starts .entry)) (now (starts .exit)) at r ⌝ }
 {
     let mut k = 0;
     let mut next = at;
     let mut i = end;
     while i < t.len() {
-        let g = next_group(t, i);
+        let g = next_group(t, ranks, i);
         write_group(numbers, k, i, g.length, g.power);
         k += 3;
         if g.length == size {
@@ -78,6 +81,7 @@ fn write_middle(
 // Writes both rows in one pass, over the middle alone where the longest words are one run.
 fn write_rows(
     t: &[u8],
+    ranks: &[u8],
     end: usize,
     place: usize,
     found: Longest,
@@ -85,23 +89,24 @@ fn write_rows(
     numbers: &mut [u16],
     starts: &mut [u16],
 )
-    requires { ⌜ Between (now t) end place × Measures (now t) found run × (length (now t) ≤ 65535) × (3 * length (suffixGroups (take place (now t)) end) ≤ length (now numbers)) × (found .count ≤ length (now starts)) ⌝ }
-    ensures { λ _. ⌜ (now (numbers .exit) ≡ written (groupNumbers (suffixGroups (take place (now (t .entry))) end)) (now (numbers .entry))) × (now (starts .exit) ≡ written (longestStarts (now (t .entry))) (now (starts .entry))) ⌝ }
+    requires { ⌜ Ranks (now ranks) × Between (ranked (now ranks) (now t)) end place × Measures (ranked (now ranks) (now t)) found run × (length (now t) ≤ 65535) × (3 * length (suffixGroups (take place (ranked (now ranks) (now t))) end) ≤ length (now numbers)) × (found .count ≤ length (now starts)) ⌝ }
+    ensures { λ _. ⌜ (now (numbers .exit) ≡ written (groupNumbers (suffixGroups (take place (ranked (now (ranks .entry)) (now (t .entry)))) end)) (now (numbers .entry))) × (now (starts .exit) ≡ written (longestStarts (ranked (now (ranks .entry)) (now (t .entry)))) (now (starts .entry))) ⌝ }
 {
     let size = found.length;
     if run == found.count {
-        fill_groups(&t[..place], end, numbers);
+        fill_groups(&t[..place], ranks, end, numbers);
         write_run(starts, 0, found.start, size, run);
         return;
     }
-    let a = write_starts(&t[..end], 0, size, starts, 0);
-    let b = write_middle(&t[..place], end, size, numbers, starts, a);
-    write_starts(t, place, size, starts, b);
+    let a = write_starts(&t[..end], ranks, 0, size, starts, 0);
+    let b = write_middle(&t[..place], ranks, end, size, numbers, starts, a);
+    write_starts(t, ranks, place, size, starts, b);
 }
 
 // Measures the result, tests refusal 8 for both rows, and writes them; for `edit_core`.
 pub fn fill(
     pattern: &[u8],
+    ranks: &[u8],
     table: &[u16],
     from: usize,
     to: usize,
@@ -111,10 +116,10 @@ pub fn fill(
     numbers: &mut [u16],
     starts: &mut [u16],
 ) -> Answer
-    requires { ⌜ Accepted (now pattern) (now table) from to (now block) (now t) × (3 * min room maxMiddle ≤ length (now numbers)) ⌝ }
-    ensures { λ r. ⌜ FillsNumbers (roomRefusals (now (pattern .entry)) from to (now (block .entry)) room (length (now (starts .entry)))) (now (pattern .entry)) from to (now (block .entry)) (now (numbers .entry)) (now (numbers .exit)) (now (starts .entry)) (now (starts .exit)) r ⌝ }
+    requires { ⌜ Ranks (now ranks) × Accepted (ranked (now ranks) (now pattern)) (now table) from to (ranked (now ranks) (now block)) (ranked (now ranks) (now t)) × (3 * min room maxMiddle ≤ length (now numbers)) ⌝ }
+    ensures { λ r. ⌜ FillsNumbers (roomRefusals (ranked (now (ranks .entry)) (now (pattern .entry))) from to (ranked (now (ranks .entry)) (now (block .entry))) room (length (now (starts .entry)))) (ranked (now (ranks .entry)) (now (pattern .entry))) from to (ranked (now (ranks .entry)) (now (block .entry))) (now (numbers .entry)) (now (numbers .exit)) (now (starts .entry)) (now (starts .exit)) r ⌝ }
 {
-    let p = plan(pattern, table, from, to, block, t);
+    let p = plan(pattern, ranks, table, from, to, block, t);
     let found = p.found;
     if room < p.groups {
         return Answer::Refused(8);
@@ -122,7 +127,16 @@ pub fn fill(
     if starts.len() < found.count {
         return Answer::Refused(8);
     }
-    write_rows(t, p.seams.end, p.seams.place, found, p.run, numbers, starts);
+    write_rows(
+        t,
+        ranks,
+        p.seams.end,
+        p.seams.place,
+        found,
+        p.run,
+        numbers,
+        starts,
+    );
     Answer::Done(Counts {
         kept: p.seams.kept,
         resume: p.seams.resume,

@@ -1,9 +1,10 @@
 -- What is left of an edit that was answered, and of the contents of the three files, is all that is printed.
+use mathlib.Core.Bool.{not}
 use mathlib.Core.List.{List, [], _∷_}
 use mathlib.Core.Path.{_≡_, refl, sym, ap, _∙_}
 use Prim.Native.Nat.{ℕ, zero, suc, _≤_, _<_}
 use native.Mathlib.Omega.{arith}
-use lib.ListN.{length}
+use lib.ListN.{length, replicate, length-replicate}
 use Rattle.edit.proofs.Answers.{done-accepted}
 use Rattle.edit.specs.Core.{roomRefusals, allRefusals, answerOf, countsOf}
 use Rattle.edit.specs.Inner.{maxMiddle, FillsNumbers}
@@ -15,13 +16,18 @@ use Rattle.edit_file.specs.EditFile.{EditFile}
 use Rattle.lyndon.specs.Calls.{ArrayMade, LastFactorsMade}
 use Rattle.edit_refusal.proofs.Passed.{passed-shape}
 use Rattle.edit_refusal.proofs.Refused.{Shaped}
-use Rattle.refusals.proofs.First.{First, first-zero}
-use Rattle.refusals.specs.Refusals.{editRefusals, firstOf, maxPattern, noStretch, blockTooLong, editedTooLong}
+use Rattle.ranks.specs.Ranks.{Bytes, isOrder, byteOrder, ranked}
+use Rattle.ranks.proofs.Marks.{byte-order}
+use Rattle.ranks.proofs.Ranked.{byte-ranked, written-byte-order}
+use Rattle.refusals.proofs.First.{First, first-zero, first-passes}
+use Rattle.refusals.specs.Filled.{Fills}
+use Rattle.refusals.specs.Refusals.{Refusal, editRefusals, firstOf, notOrder, patternTooLong, tooShort, maxPattern, noStretch, blockTooLong, editedTooLong}
 use Rattle.refusals.specs.declared.Filled.{Filled}
 use Rattle.text.proofs.Lines.{refusal-room, listing-room}
 use Rattle.text.proofs.Begins.{puts-begins}
 use Rattle.text.specs.Inner.{maxListing}
 use Rattle.text.specs.Listing.{editedText, refusalText, printed}
+use Rattle.rows.specs.Row.{written}
 use Rattle.rows.specs.Written.{Room, Puts}
 use Rattle.words.proofs.Edit.{length-edited}
 use Rattle.words.proofs.Tables.{lyndon-array-length, last-factors-length}
@@ -43,18 +49,53 @@ line-printed zero c text {r} {k} e q = absurd (omega (arith, ap isDone (sym e �
     isDone (Refused k) = 0
 line-printed (suc m) c text e q = ap (λ x. refusalText (refusalIn x)) (sym e)
 
-module _ (s : List ℕ) {a₀ array : List ℕ} {ra : Filled} {l₀ last : List ℕ} {rl : Filled} (from to : ℕ) (b : List ℕ) {room : ℕ} {row row′ starts starts′ : List ℕ}
-    {r : Answer} (h : length s ≤ maxPattern) (made : ArrayMade s a₀ array ra) (array-room : maxPattern ≤ length a₀) (made-last : LastFactorsMade s l₀ last rl)
-    (last-room : maxPattern ≤ length l₀)
-    (e : FillsNumbers (allRefusals s array last from to b room (length starts)) s from to b row row′ starts starts′ r) (middle-room : maxMiddle ≤ room)
-    (starts-room : maxPattern ≤ length starts) where
+pub order-filled : {order : List ℕ} → order ≡ written byteOrder (replicate 256 0) → order ≡ byteOrder
+order-filled e = e ∙ written-byte-order (replicate 256 0) (length-replicate {A = ℕ} 256 0)
+
+-- the order handed over is byte order, under which an answer is the one that names no order
+module _ {order : List ℕ} (is : order ≡ byteOrder) where
+  past-order : (rs : List Refusal) → firstOf (notOrder order ∷ rs) ≡ firstOf rs
+  past-order rs = first-passes (notOrder order) rs (ap (λ o. not (isOrder o)) is ∙ ap not byte-order)
+
+  plain-ranks : (s : List ℕ) → Bytes s → ranked order s ≡ s
+  plain-ranks s h = ap (λ o. ranked o s) is ∙ byte-ranked s h
+
+  plain-made : {rs : List Refusal} {out row row′ : List ℕ} {n : ℕ} {r : Filled} → Fills (notOrder order ∷ rs) out n row row′ r → Fills rs out n row row′ r
+  plain-made {rs} w =
+      let e = past-order rs in
+      record { refusal = rw e at (w .refusal); count = rw e at (w .count); leaves = rw e at (w .leaves) }
+
+  plain-array : (s : List ℕ) {row row′ : List ℕ} {r : Filled} → Bytes s → ArrayMade s order row row′ r
+      → Fills (patternTooLong s ∷ tooShort (length (lyndonArray s)) (length row) ∷ []) (lyndonArray s) (length s) row row′ r
+  plain-array s h w = plain-made (rw (plain-ranks s h) at w)
+
+  plain-last : (s : List ℕ) {row row′ : List ℕ} {r : Filled} → Bytes s → LastFactorsMade s order row row′ r
+      → Fills (patternTooLong s ∷ tooShort (length (lastFactors s)) (length row) ∷ []) (lastFactors s) (length s) row row′ r
+  plain-last s h w = plain-made (rw (plain-ranks s h) at w)
+
+  plain-core : (s array last : List ℕ) (from to : ℕ) (b : List ℕ) (room size : ℕ) {row row′ starts starts′ : List ℕ} {r : Answer} → Bytes s → Bytes b
+      → FillsNumbers (notOrder order ∷ allRefusals (ranked order s) array last from to (ranked order b) room size) (ranked order s) from to (ranked order b) row row′ starts starts′ r
+      → FillsNumbers (allRefusals s array last from to b room size) s from to b row row′ starts starts′ r
+  plain-core s array last from to b room size h l f =
+      let g = rw (plain-ranks s h, plain-ranks b l) at f in
+      let e = past-order (allRefusals s array last from to b room size) in
+      record { answers = rw e at (g .answers); middle = rw e at (g .middle); places = rw e at (g .places) }
+
+module _ (s order : List ℕ) {a₀ array : List ℕ} {ra : Filled} {l₀ last : List ℕ} {rl : Filled} (from to : ℕ) (b : List ℕ) {room : ℕ} {row row′ starts starts′ : List ℕ}
+    {r : Answer} (is : order ≡ byteOrder) (symbols : Bytes s) (blocks : Bytes b) (h : length s ≤ maxPattern) (made : ArrayMade s order a₀ array ra)
+    (array-room : maxPattern ≤ length a₀) (made-last : LastFactorsMade s order l₀ last rl) (last-room : maxPattern ≤ length l₀)
+    (core : FillsNumbers (notOrder order ∷ allRefusals (ranked order s) array last from to (ranked order b) room (length starts)) (ranked order s) from to (ranked order b) row row′ starts starts′ r)
+    (middle-room : maxMiddle ≤ room) (starts-room : maxPattern ≤ length starts) where
+  e : FillsNumbers (allRefusals s array last from to b room (length starts)) s from to b row row′ starts starts′ r
+  e = plain-core is s array last from to b room (length starts) symbols blocks core
+
   abbrev number : ℕ
   number = firstOf (noStretch s from to ∷ blockTooLong b ∷ editedTooLong s from to b ∷ [])
 
   answers : r ≡ answerOf number (countsOf s from to b)
   answers =
-      let tables = right s (lyndonArray s) a₀ h (lyndon-array-length s) array-room made
-      (right s (lastFactors s) l₀ h (last-factors-length s) last-room made-last First.none) in
+      let tables = right s (lyndonArray s) a₀ h (lyndon-array-length s) array-room (plain-array is s symbols made)
+      (right s (lastFactors s) l₀ h (last-factors-length s) last-room (plain-last is s symbols made-last) First.none) in
       e .answers
       ∙ ap (λ k. answerOf k (countsOf s from to b)) (settled s array last from to b room starts h tables middle-room starts-room)
 

@@ -10,6 +10,8 @@ use edited_text::write_edited;
 use libc::STDOUT_FILENO;
 use lyndon::last_factors;
 use lyndon::lyndon_array;
+use ranks::ORDER;
+use ranks::fill_byte_order;
 use refusals::MAX_BLOCK;
 use refusals::MAX_PATTERN;
 use text::MAX_LISTING;
@@ -59,14 +61,17 @@ fn write_answer(pattern: &[u8], from: usize, to: usize, block: &[u8], text: &mut
     requires { ⌜ (length (now pattern) ≤ maxPattern) × (maxListing ≤ length (now text)) ⌝ }
     ensures { λ r. ⌜ Puts (editOutput (now (pattern .entry)) from to (now (block .entry))) 0 (now (text .entry)) (now (text .exit)) r ⌝ }
 {
+    let mut order = [0u8; ORDER];
+    fill_byte_order(&mut order);
     let mut array = [0u16; MAX_PATTERN];
-    lyndon_array(pattern, &mut array);
+    lyndon_array(pattern, &order, &mut array);
     let mut last = [0u16; MAX_PATTERN];
-    last_factors(pattern, &mut last);
+    last_factors(pattern, &order, &mut last);
     let mut middle = [0u16; 3 * MAX_MIDDLE];
     let mut starts = [0u16; MAX_PATTERN];
     let answer = core(
         pattern,
+        &order,
         &array,
         &last,
         from,

@@ -25,5 +25,6 @@ pub fn write_edited(
     let mut t = [0u8; MAX_PATTERN];
     splice(pattern, from, to, block, &mut t);
     let m = from + block.len() + (pattern.len() - to);
-    write_text(&t[..m], buffer)
+    // no ranks stand for byte order
+    write_text(&t[..m], &pattern[..0], buffer)
 }

@@ -3,6 +3,8 @@
 use libc::STDIN_FILENO;
 use libc::STDOUT_FILENO;
 use lyndon_text::write_listing;
+use ranks::ORDER;
+use ranks::fill_byte_order;
 use refusals::MAX_PATTERN;
 use text::MAX_LISTING;
 use text::write_refusal;
@@ -17,7 +19,9 @@ fn write_output(pattern: &[u8], text: &mut [u8]) -> usize
     requires { ⌜ maxListing ≤ length (now text) ⌝ }
     ensures { λ r. ⌜ Begins (output (now (pattern .entry))) (now (text .entry)) (now (text .exit)) r ⌝ }
 {
-    let answer = write_listing(pattern, text);
+    let mut order = [0u8; ORDER];
+    fill_byte_order(&mut order);
+    let answer = write_listing(pattern, &order, text);
     if answer.refusal != 0 {
         return write_refusal(answer.refusal as usize, text);
     }

@@ -4,6 +4,8 @@ use scan::next_group;
 ghost use mathlib.Core.Path.{_≡_};
 ghost use Prim.Native.Nat.{_+_, _*_, _<_, _≤_};
 ghost use lib.ListN.{length};
+ghost use Rattle.ranks.specs.Inner.{Ranks};
+ghost use Rattle.ranks.specs.Ranks.{ranked};
 ghost use Rattle.rows.specs.Row.{written, writtenAt};
 ghost use Rattle.words.specs.Tables.{suffixGroups, longestStarts};
 ghost use Rattle.longest.specs.Best.{betterOf, runFrom, runOf, startsOf, Measures};
@@ -53,8 +55,9 @@ pub struct LongestRun {
     pub run: usize,
 }
 
-pub fn measure(s: &[u8]) -> LongestRun
-    ensures { λ r. ⌜ Measures (now (s .entry)) (r .found) (r .run) ⌝ }
+pub fn measure(s: &[u8], ranks: &[u8]) -> LongestRun
+    requires { ⌜ Ranks (now ranks) ⌝ }
+    ensures { λ r. ⌜ Measures (ranked (now (ranks .entry)) (now (s .entry))) (r .found) (r .run) ⌝ }
 {
     let mut best = Longest {
         start: 0,
@@ -64,7 +67,7 @@ pub fn measure(s: &[u8]) -> LongestRun
     let mut run = 0;
     let mut i = 0;
     while i < s.len() {
-        let g = next_group(s, i);
+        let g = next_group(s, ranks, i);
         run = first_run(run, best.length, g.length, g.power);
         best = better(best, i, g.length, g.power);
         i += g.power * g.length;
@@ -88,14 +91,21 @@ pub fn write_run(row: &mut [u16], at: usize, start: usize, size: usize, power: u
 }
 
 // Writes the starts of the factors of one length that stand from a place on, from place `at` of the row on, and answers the place after them.
-pub fn write_starts(s: &[u8], from: usize, size: usize, row: &mut [u16], at: usize) -> usize
-    requires { ⌜ (length (now s) ≤ 65535) × (from ≤ length (now s)) × (at + length (startsOf size (suffixGroups (now s) from)) ≤ length (now row)) ⌝ }
-    ensures { λ r. ⌜ (r ≡ at + length (startsOf size (suffixGroups (now (s .entry)) from))) × (now (row .exit) ≡ writtenAt at (startsOf size (suffixGroups (now (s .entry)) from)) (now (row .entry))) ⌝ }
+pub fn write_starts(
+    s: &[u8],
+    ranks: &[u8],
+    from: usize,
+    size: usize,
+    row: &mut [u16],
+    at: usize,
+) -> usize
+    requires { ⌜ Ranks (now ranks) × (length (now s) ≤ 65535) × (from ≤ length (now s)) × (at + length (startsOf size (suffixGroups (ranked (now ranks) (now s)) from)) ≤ length (now row)) ⌝ }
+    ensures { λ r. ⌜ (r ≡ at + length (startsOf size (suffixGroups (ranked (now (ranks .entry)) (now (s .entry))) from))) × (now (row .exit) ≡ writtenAt at (startsOf size (suffixGroups (ranked (now (ranks .entry)) (now (s .entry))) from)) (now (row .entry))) ⌝ }
 {
     let mut next = at;
     let mut i = from;
     while i < s.len() {
-        let g = next_group(s, i);
+        let g = next_group(s, ranks, i);
         if g.length == size {
             next = write_run(row, next, i, g.length, g.power);
         }
@@ -105,13 +115,13 @@ pub fn write_starts(s: &[u8], from: usize, size: usize, row: &mut [u16], at: usi
 }
 
 // Writes the starts of the longest Lyndon substrings, which were measured: where they are one run, the pattern is not scanned again.
-pub fn write_longest(s: &[u8], found: Longest, run: usize, row: &mut [u16])
-    requires { ⌜ (length (now s) ≤ 65535) × Measures (now s) found run × (found .count ≤ length (now row)) ⌝ }
-    ensures { λ _. ⌜ now (row .exit) ≡ written (longestStarts (now (s .entry))) (now (row .entry)) ⌝ }
+pub fn write_longest(s: &[u8], ranks: &[u8], found: Longest, run: usize, row: &mut [u16])
+    requires { ⌜ Ranks (now ranks) × (length (now s) ≤ 65535) × Measures (ranked (now ranks) (now s)) found run × (found .count ≤ length (now row)) ⌝ }
+    ensures { λ _. ⌜ now (row .exit) ≡ written (longestStarts (ranked (now (ranks .entry)) (now (s .entry)))) (now (row .entry)) ⌝ }
 {
     if run == found.count {
         write_run(row, 0, found.start, found.length, run);
     } else {
-        write_starts(s, 0, found.length, row, 0);
+        write_starts(s, ranks, 0, found.length, row, 0);
     }
 }

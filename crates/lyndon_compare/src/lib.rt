@@ -1,4 +1,5 @@
-// The public library's comparison of two strings. It tests its refusal and then calls `scan`, whose comparison the whole engine uses.
+// The public library's comparison of two strings. It tests its refusals and then calls `scan`, whose comparison the whole engine uses.
+use ranks::test_order;
 use refusals::MAX_PATTERN;
 use scan::Compared;
 ghost use mathlib.Core.Path.{_≡_};
@@ -10,15 +11,21 @@ pub enum Comparison {
     Refused(u8),
 }
 
-// The length of the common beginning of two strings, and which is smaller. Refusal 1, for either.
-pub fn compare(first: &[u8], second: &[u8]) -> Comparison
-    ensures { λ r. ⌜ r ≡ comparison (now (first .entry)) (now (second .entry)) ⌝ }
+// The length of the common beginning of two strings, and which is smaller. Refusals 13, 1, the second for either.
+pub fn compare(first: &[u8], second: &[u8], order: &[u8]) -> Comparison
+    ensures { λ r. ⌜ r ≡ comparison (now (first .entry)) (now (second .entry)) (now (order .entry)) ⌝ }
 {
+    let tested = test_order(order);
+    if !tested.order {
+        return Comparison::Refused(13);
+    }
+    let used = tested.used;
+    let ranks = &order[..used];
     if MAX_PATTERN < first.len() {
         return Comparison::Refused(1);
     }
     if MAX_PATTERN < second.len() {
         return Comparison::Refused(1);
     }
-    Comparison::Done(scan::compare(first, second))
+    Comparison::Done(scan::compare(first, second, ranks))
 }

@@ -1,5 +1,6 @@
 -- The call from what the core and the storing ensure: the stored records are the middle groups, so the numbers and the rows are the defined
 -- answer, of which demand 3 holds.
+use mathlib.Core.Bool.{Bool, true, false, not}
 use mathlib.Core.List.{List, [], _∷_, _++_, map}
 use mathlib.Core.Logic.{_⊎_, inl, inr}
 use mathlib.Core.Path.{_≡_, refl, sym, ap, subst, _∙_}
@@ -15,10 +16,15 @@ use Rattle.edit.specs.declared.Answer.{Answer}
 use Rattle.edit.specs.declared.Answer.the-variants.{Done}
 use Rattle.edit.specs.declared.Counts.{Counts}
 use Rattle.edit_refusal.proofs.Passed.{passed-shape}
+use Rattle.ranks.proofs.Demand.{demand-three-by}
+use Rattle.ranks.proofs.Marks.{order-true}
+use Rattle.ranks.proofs.Ranked.{order-ranks}
+use Rattle.ranks.specs.Demand.{DemandThreeBy}
+use Rattle.ranks.specs.Ranks.{Bytes, isOrder, ranked}
 use Rattle.records.specs.declared.Group.{Group}
 use Rattle.records.specs.Groups.{groupsOf, filled}
-use Rattle.refusals.specs.Refusals.{editRefusals, Refusal, firstOf, rowAfter, tooShort}
-use Rattle.refusals.proofs.First.{first-holds, first-later, first-zero}
+use Rattle.refusals.specs.Refusals.{editRefusals, Refusal, firstOf, notOrder, rowAfter, tooShort}
+use Rattle.refusals.proofs.First.{first-holds, first-later, first-passes, first-zero}
 use Rattle.rows.specs.Row.{written}
 use Rattle.scan.proofs.Pass.{length-numbers}
 use Rattle.words.proofs.Answer.{answer}
@@ -29,6 +35,14 @@ use Rattle.words.specs.Edit.{edited, kept, resume, middleGroups}
 use Rattle.words.specs.Factors as factors
 use Rattle.words.specs.Tables.{longest, longestStarts}
 use Rattle.lyndon_edit.specs.Calls.{groupOf, recordOf, EditAnswered}
+
+-- refusal 13 does not hold, nor one that is tested after it
+order-passed : (order : List ℕ) (rs : List Refusal) → firstOf (notOrder order ∷ rs) ≡ 0 → (isOrder order ≡ true) × (firstOf rs ≡ 0)
+order-passed order rs e = go (isOrder order) refl
+  where
+    go : (t : Bool) → isOrder order ≡ t → (isOrder order ≡ true) × (firstOf rs ≡ 0)
+    go true q = (q, sym (first-passes (notOrder order) rs (ap not q)) ∙ e)
+    go false q = absurd (omega (arith, first-holds (notOrder order) rs (ap not q), e))
 
 module _ (s array last : List ℕ) (from to : ℕ) (b : List ℕ) where
   -- where no refusal holds, none of those tested later does
@@ -67,17 +81,28 @@ room-passed needs room rs e = go (le-or-lt needs room)
     go (inl h) = h
     go (inr h) = absurd (omega (arith, first-holds (tooShort needs room) rs (lt-ltb room needs h)))
 
-module _ (s array last : List ℕ) (from to : ℕ) (b : List ℕ) (row : List Group) (ns ns′ starts starts′ : List ℕ) (r : Answer)
-    (f : FillsNumbers (allRefusals s array last from to b (length row) (length starts)) s from to b ns ns′ starts starts′ r) (n : ℕ) (count : n ≡ countOf r) where
+module _ (s order array last : List ℕ) (from to : ℕ) (b : List ℕ) (row : List Group) (ns ns′ starts starts′ : List ℕ) (r : Answer)
+    (f : FillsNumbers (notOrder order ∷ allRefusals (ranked order s) array last from to (ranked order b) (length row) (length starts))
+    (ranked order s) from to (ranked order b) ns ns′ starts starts′ r) (n : ℕ) (count : n ≡ countOf r) where
+  -- the ranks of the pattern and of the block
+  abbrev u : List ℕ
+  u = ranked order s
+
+  abbrev v : List ℕ
+  v = ranked order b
+
+  abbrev later : List Refusal
+  later = allRefusals u array last from to v (length row) (length starts)
+
   abbrev rs : List Refusal
-  rs = allRefusals s array last from to b (length row) (length starts)
+  rs = notOrder order ∷ later
 
   abbrev gs : List factors.Group
-  gs = middleGroups s from to b
+  gs = middleGroups u from to v
 
   -- no group where the edit is refused, all of them where it is not
-  counted : {k : ℕ} → firstOf rs ≡ k → n ≡ countOf (answerOf k (countsOf s from to b))
-  counted e = count ∙ ap countOf (f .answers) ∙ ap (λ x. countOf (answerOf x (countsOf s from to b))) e
+  counted : {k : ℕ} → firstOf rs ≡ k → n ≡ countOf (answerOf k (countsOf u from to v))
+  counted e = count ∙ ap countOf (f .answers) ∙ ap (λ x. countOf (answerOf x (countsOf u from to v))) e
 
   all-counted : firstOf rs ≡ 0 → n ≡ length gs
   unfolding countsOf
@@ -91,8 +116,8 @@ module _ (s array last : List ℕ) (from to : ℕ) (b : List ℕ) (row : List Gr
     where
       go : (k : ℕ) → firstOf rs ≡ k → n ≤ length row
       go zero e =
-          let later = later-passed s array last from to b (roomRefusals s from to b (length row) (length starts)) e in
-          omega (arith, all-counted e, room-passed (length gs) (length row) (tooShort (length (longestStarts (edited s from to b))) (length starts) ∷ []) later)
+          let passed = later-passed u array last from to v (roomRefusals u from to v (length row) (length starts)) (order-passed order later e .1) in
+          omega (arith, all-counted e, room-passed (length gs) (length row) (tooShort (length (longestStarts (edited u from to v))) (length starts) ∷ []) passed)
       go (suc k) e = omega (arith, counted e)
 
   pub numbers-fit : 3 * n ≤ length ns′
@@ -122,19 +147,21 @@ module _ (s array last : List ℕ) (from to : ℕ) (b : List ℕ) (row : List Gr
             stored ∙ ap (λ t. t ++ drop n row) a ∙ ap (λ m. map recordOf gs ++ drop m row) (all-counted q ∙ sym (length-map gs recordOf))
         go (suc k) q = stored ∙ ap (λ m. groupsOf m ns′ ++ drop m row) (counted q)
 
-    pub edit-answered : EditAnswered s array last from to b row row′ starts starts′ r
+    pub edit-answered : Bytes s → Bytes b → EditAnswered s order array last from to b row row′ starts starts′ r
     unfolding countsOf
-    edit-answered = record { fills = record { answers = f .answers; middle = stored-after refl; places = f .places }; demandThree = demand }
+    edit-answered p q = record { fills = record { answers = f .answers; middle = stored-after refl; places = f .places }; demandThree = demand }
       where
-        demand : (c : Counts) → r ≡ Done c → DemandThree s from to b (c .kept) (c .resume) (c .groups) (c .length) (c .starts) (map groupOf (take (c .groups) row′)) (take (c .starts) starts′)
+        demand : (c : Counts) → r ≡ Done c → DemandThreeBy order s from to b (c .kept) (c .resume) (c .groups) (c .length) (c .starts) (map groupOf (take (c .groups) row′)) (take (c .starts) starts′)
         demand c e =
-            let d = done-accepted (firstOf rs) (countsOf s from to b) c (sym (f .answers) ∙ e) in
-            let out = longestStarts (edited s from to b) in
+            let d = done-accepted (firstOf rs) (countsOf u from to v) c (sym (f .answers) ∙ e) in
+            let out = longestStarts (edited u from to v) in
+            let passed = order-passed order later (d .0) in
             let w : row′ ≡ map recordOf gs ++ drop (length (map recordOf gs)) row = stored-after (d .0) in
-            let p : starts′ ≡ written out starts = f .places ∙ ap (λ k. rowAfter k out starts) (d .0) in
+            let places : starts′ ≡ written out starts = f .places ∙ ap (λ k. rowAfter k out starts) (d .0) in
             let t : take (length gs) row′ ≡ map recordOf gs =
             ap (take (length gs)) w ∙ take-at (map recordOf gs) (drop (length (map recordOf gs)) row) (length gs) (length-map gs recordOf) in
             let g : map groupOf (take (length gs) row′) ≡ gs = ap (map groupOf) t ∙ groups-of gs in
-            subst (λ x. DemandThree s from to b (x .kept) (x .resume) (x .groups) (x .length) (x .starts) (map groupOf (take (x .groups) row′)) (take (x .starts) starts′)) (d .1)
-            (demand-answered s array last from to b (roomRefusals s from to b (length row) (length starts)) (d .0)
-            (map groupOf (take (length gs) row′)) starts′ g (drop (length out) starts) p)
+            subst (λ x. DemandThreeBy order s from to b (x .kept) (x .resume) (x .groups) (x .length) (x .starts) (map groupOf (take (x .groups) row′)) (take (x .starts) starts′)) (d .1)
+            (demand-three-by (order-ranks (order-true order (passed .0))) s from to b p q
+            (demand-answered u array last from to v (roomRefusals u from to v (length row) (length starts)) (passed .1)
+            (map groupOf (take (length gs) row′)) starts′ g (drop (length out) starts) places))

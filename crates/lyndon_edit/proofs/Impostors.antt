@@ -1,21 +1,27 @@
 -- Impostors of the call that answers an edit, each by the demand that excludes it; their names say what they do. Those of demand 3 contradict
--- `DemandThree` by itself, those of demand 2 `DemandTwo`, and those of demand 1 what the contract says of the first refusal, with any numbers;
--- `contract-three`, `contract-two` and `contract-one` take all of these off the contract. The case is P5 of the trainer's sheet: of acbabcabcabac
--- the stretch from 5 to 6 goes and b comes in. A letter stands for its ASCII code.
+-- `DemandThreeBy` by itself, those of demand 2 `DemandTwoBy`, and those of demand 1 what the contract says of the first refusal, with any numbers;
+-- `contract-three`, `contract-two` and `contract-one` take all of these off the contract. The case is P5 of the trainer's sheet, in byte order: of
+-- acbabcabcabac the stretch from 5 to 6 goes and b comes in. A letter stands for its ASCII code.
+use mathlib.Core.Bool.{not}
 use mathlib.Core.List.{List, [], _∷_, _++_, map}
 use mathlib.Core.Path.{_≡_, refl, sym, ap, _∙_}
-use Prim.Native.Nat.{ℕ, _<_}
+use Prim.Native.Nat.{ℕ, zero, suc, _<_}
 use native.Mathlib.Omega.{arith}
 use lib.ListN.{length, take, drop, getD}
 use Rattle.edit.specs.Core.{countsOf, answerOf, allRefusals}
 use Rattle.edit.specs.declared.Answer as call
 use Rattle.edit.specs.declared.Answer.the-variants.{Done, Refused}
 use Rattle.edit.specs.declared.Counts.{Counts}
+use Rattle.ranks.proofs.Demand.{MeetsThreeBy}
+use Rattle.ranks.proofs.Theorems.{order-test, demand-two-by, byte-order, byte-order-ranked, byte-order-factors, byte-order-demand-three}
+use Rattle.ranks.proofs.Words.{bytes-edited}
+use Rattle.ranks.specs.Demand.{DemandTwoBy}
+use Rattle.ranks.specs.Ranks.{Bytes, byteOrder, factorsBy}
 use Rattle.records.specs.declared.Group.{Group}
-use Rattle.refusals.specs.Refusals.{firstOf}
-use Rattle.words.proofs.Answer.{Answer, answer, MeetsThree}
-use Rattle.words.proofs.Theorems.{demand-two, demand-three-only}
-use Rattle.words.specs.Demand.{DemandTwo}
+use Rattle.refusals.specs.Refusals.{firstOf, notOrder}
+use Rattle.refusals.proofs.First.{first-passes}
+use Rattle.words.proofs.Answer.{Answer, answer}
+use Rattle.words.proofs.Theorems.{demand-three-only}
 use Rattle.words.specs.Edit.{edited, kept, keptOf, resume, middle, middleOf, middleGroups, bits}
 use Rattle.words.specs.Factors as factors
 use Rattle.words.specs.Factors.{join, factors, spelled}
@@ -34,9 +40,29 @@ c = 99
 abbrev stored : List ℕ
 stored = a ∷ c ∷ b ∷ a ∷ b ∷ c ∷ a ∷ b ∷ c ∷ a ∷ b ∷ a ∷ c ∷ []
 
+-- the case is of bytes
+abbrev Below : List ℕ → Type 0
+Below [] = Unit {0}
+Below (x ∷ s) = (x < 256) × Below s
+
+bytes : (s : List ℕ) → Below s → Bytes s
+bytes [] t i h = absurd (omega (arith, h))
+bytes (x ∷ s) t zero h = t .0
+bytes (x ∷ s) t (suc i) h = bytes s (t .1) i (omega (arith, h))
+
+stored-bytes : Bytes stored
+stored-bytes =
+    bytes stored (omega arith, (omega arith, (omega arith, (omega arith, (omega arith, (omega arith, (omega arith, (omega arith, (omega arith, (omega arith, (omega arith, (omega arith, (omega arith, tt)))))))))))))
+
+block-bytes : Bytes (b ∷ [])
+block-bytes = bytes (b ∷ []) (omega arith, tt)
+
+edited-bytes : Bytes (edited stored 5 6 (b ∷ []))
+edited-bytes = bytes-edited stored 5 6 (b ∷ []) stored-bytes block-bytes
+
 -- demand 3 of an answer to the case
 abbrev P5 : Answer → Type 0
-P5 x = MeetsThree stored 5 6 (b ∷ []) x
+P5 x = MeetsThreeBy byteOrder stored 5 6 (b ∷ []) x
 
 -- the answer that numbers and rows are
 abbrev answered : Counts → List Group → List ℕ → Answer
@@ -57,31 +83,37 @@ right groups starts = record { kept = 1; resume = 9; groups = groups; groupCount
 
 only-right : (x : Answer) → P5 x → x ≡ right (record { start = 3; size = 6; power = 1 } ∷ []) (3 ∷ [])
 unfolding answer factors longestAt lyndonArray lastFactor lastFactors lyndonStarts longest longestStarts edited kept keptOf resume middle middleOf middleGroups
-only-right x d = demand-three-only stored 5 6 (b ∷ []) (omega arith) (omega arith) x d
+only-right x d =
+    demand-three-only stored 5 6 (b ∷ []) (omega arith) (omega arith) x (byte-order-demand-three stored 5 6 (b ∷ []) stored-bytes block-bytes x .0 d)
 
 -- what the contract says of an answer that is no refusal: demand 3 of its numbers and of the rows as they are left
 pub contract-three : {array last : List ℕ} {row row′ : List Group} {starts starts′ : List ℕ} (n : Counts)
-    → EditAnswered stored array last 5 6 (b ∷ []) row row′ starts starts′ (Done n) → P5 (answered n row′ starts′)
+    → EditAnswered stored byteOrder array last 5 6 (b ∷ []) row row′ starts starts′ (Done n) → P5 (answered n row′ starts′)
 contract-three n h = h .demandThree n refl
 
 -- the factors that an answer reports: the kept ones, the groups spelled out, and those of the stored ending
 abbrev reported : Answer → List (List ℕ)
-reported x = take (x .kept) (factors stored) ++ (spelled (edited stored 5 6 (b ∷ [])) (x .groups) ++ factors (drop (x .resume) stored))
+reported x =
+    take (x .kept) (factorsBy byteOrder stored) ++ (spelled (edited stored 5 6 (b ∷ [])) (x .groups) ++ factorsBy byteOrder (drop (x .resume) stored))
 
 -- and so, by `exactly`, demand 2 of the factors reported
 pub contract-two : {array last : List ℕ} {row row′ : List Group} {starts starts′ : List ℕ} (n : Counts)
-    → EditAnswered stored array last 5 6 (b ∷ []) row row′ starts starts′ (Done n)
-    → DemandTwo (edited stored 5 6 (b ∷ [])) (reported (answered n row′ starts′))
-contract-two n h = rw (h .demandThree n refl .exactly) (demand-two (edited stored 5 6 (b ∷ [])))
+    → EditAnswered stored byteOrder array last 5 6 (b ∷ []) row row′ starts starts′ (Done n)
+    → DemandTwoBy byteOrder (edited stored 5 6 (b ∷ [])) (reported (answered n row′ starts′))
+contract-two n h = rw (h .demandThree n refl .exactly) (demand-two-by byteOrder byte-order (edited stored 5 6 (b ∷ [])) edited-bytes)
 
 -- the stored factors are reported: four, where the edited pattern has three (demand 3), and joined they are the stored pattern (demand 2)
-pub repeats-the-stored-factors : (x : Answer) → reported x ≡ factors stored → P5 x → ⊥
+pub repeats-the-stored-factors : (x : Answer) → reported x ≡ factorsBy byteOrder stored → P5 x → ⊥
 unfolding edited factors
-repeats-the-stored-factors x e d = omega (arith, ap length (sym e ∙ d .exactly))
+repeats-the-stored-factors x e d =
+    omega (
+      arith,
+      ap length (sym (byte-order-factors stored stored-bytes) ∙ sym e ∙ d .exactly ∙ byte-order-factors (edited stored 5 6 (b ∷ [])) edited-bytes),
+    )
 
-pub stored-factors-repeated : (x : Answer) → reported x ≡ factors stored → DemandTwo (edited stored 5 6 (b ∷ [])) (reported x) → ⊥
+pub stored-factors-repeated : (x : Answer) → reported x ≡ factorsBy byteOrder stored → DemandTwoBy byteOrder (edited stored 5 6 (b ∷ [])) (reported x) → ⊥
 unfolding edited factors
-stored-factors-repeated x e d = omega (arith, ap (λ s. getD s 5 0) (sym (ap join e) ∙ d .qualities .joined))
+stored-factors-repeated x e d = omega (arith, ap (λ s. getD s 5 0) (sym (ap join (e ∙ byte-order-factors stored stored-bytes)) ∙ d .qualities .joined))
 
 -- demand 3: none is kept; nothing is resumed; and by its bound on the groups, rightly counted, all groups of the edited pattern are spelled out,
 -- where an edit of cba at 1 that changes nothing may spell out two
@@ -91,9 +123,12 @@ keeps-none x e d = omega (arith, ap (λ y. y .kept) (only-right x d), e)
 pub resumes-nothing : (x : Answer) → x .resume ≡ length stored → P5 x → ⊥
 resumes-nothing x e d = omega (arith, ap (λ y. y .resume) (only-right x d), e)
 
-pub spells-out-everything : (x : Answer) → x .groups ≡ groups (edited (c ∷ b ∷ a ∷ []) 1 1 []) → MeetsThree (c ∷ b ∷ a ∷ []) 1 1 [] x → ⊥
+pub spells-out-everything : (x : Answer) → x .groups ≡ groups (edited (c ∷ b ∷ a ∷ []) 1 1 []) → MeetsThreeBy byteOrder (c ∷ b ∷ a ∷ []) 1 1 [] x → ⊥
 unfolding bits edited factors groups
-spells-out-everything x e d = omega (arith, d .bound, d .countsGroups, ap length e)
+spells-out-everything x e d =
+    let s = c ∷ b ∷ a ∷ [] in
+    let plain = byte-order-demand-three s 1 1 [] (bytes s (omega arith, (omega arith, (omega arith, tt)))) (bytes [] tt) x .0 d in
+    omega (arith, plain .bound, plain .countsGroups, ap length e)
 
 -- demand 3: any other number of groups, or of starts
 pub invents-groups : (x : Answer) → (x .groupCount ≡ 1 → ⊥) → P5 x → ⊥
@@ -119,14 +154,24 @@ leaves-the-records starts′ d = omega (arith, ap (λ y. getD (y .groups) 0 zero
 pub leaves-the-starts : (row′ : List Group) → P5 (right (map groupOf (take 1 row′)) (0 ∷ [])) → ⊥
 leaves-the-starts row′ d = omega (arith, ap (λ y. getD (y .starts) 0 0) (only-right (right (map groupOf (take 1 row′)) (0 ∷ [])) d))
 
+-- what the contract answers in byte order
+plain-answers : (s array last : List ℕ) (from to : ℕ) (block : List ℕ) {row row′ : List Group} {starts starts′ : List ℕ} {r : call.Answer}
+    → Bytes s → Bytes block → EditAnswered s byteOrder array last from to block row row′ starts starts′ r
+    → r ≡ answerOf (firstOf (allRefusals s array last from to block (length row) (length starts))) (countsOf s from to block)
+plain-answers s array last from to block {row} {starts = starts} p q h =
+    rw (byte-order-ranked s p, byte-order-ranked block q) at (h .fills .answers)
+    ∙ ap (λ k. answerOf k (countsOf s from to block))
+    (first-passes (notOrder byteOrder) (allRefusals s array last from to block (length row) (length starts)) (ap not (order-test byteOrder .1 byte-order)))
+
 -- demand 1: what the contract answers with rows of so many records and starts, for the numbers n
 abbrev Answers : ℕ → ℕ → Counts → call.Answer → Type 0
 Answers room starts n r = r ≡ answerOf (firstOf (allRefusals stored (lyndonArray stored) (lastFactors stored) 5 6 (b ∷ []) room starts)) n
 
 pub contract-one : (room starts : ℕ) {row row′ : List Group} {places places′ : List ℕ} {r : call.Answer} → length row ≡ room → length places ≡ starts
-    → EditAnswered stored (lyndonArray stored) (lastFactors stored) 5 6 (b ∷ []) row row′ places places′ r
+    → EditAnswered stored byteOrder (lyndonArray stored) (lastFactors stored) 5 6 (b ∷ []) row row′ places places′ r
     → Answers room starts (countsOf stored 5 6 (b ∷ [])) r
-contract-one room starts p q h = rw (p, q) at (h .fills .answers)
+contract-one room starts p q h =
+    rw (p, q) at (plain-answers stored (lyndonArray stored) (lastFactors stored) 5 6 (b ∷ []) stored-bytes block-bytes h)
 
 abbrev accepted : call.Answer → ℕ
 accepted (Done n) = 1

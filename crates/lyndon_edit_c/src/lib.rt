@@ -1,8 +1,11 @@
-// The call that answers an edit, for Rust and C: the rows go through as they lie, and the answer comes as one flat struct.
+// The call that answers an edit, for Rust and C: the rows go through as they lie, and the answer comes as one flat struct; and the interface's
+// number, which each archive tells.
 // A slice is two parameters for the caller, its pointer and its length; a Rust caller declares them so, and not as `&[u8]`.
 use edit::Answer;
 use records::Group;
+use refusals::INTERFACE;
 ghost use mathlib.Core.Path.{_≡_};
+ghost use Rattle.refusals.specs.Interface.{interface};
 ghost use Rattle.lyndon_edit.specs.Calls.{EditAnswered};
 ghost use Rattle.lyndon_edit_c.specs.Flat.{flatOf, Exports};
 
@@ -44,6 +47,7 @@ pub fn flatten(a: Answer) -> EditAnswer
 #[no_mangle]
 pub extern "C" fn lyndon_edit(
     pattern: &[u8],
+    order: &[u8],
     array: &[u16],
     last: &[u16],
     from: usize,
@@ -52,8 +56,15 @@ pub extern "C" fn lyndon_edit(
     middle: &mut [Group],
     starts: &mut [u16],
 ) -> EditAnswer
-    ensures { λ r. ⌜ Exports (EditAnswered (now (pattern .entry)) (now (array .entry)) (now (last .entry)) from to (now (block .entry)) (now (middle .entry)) (now (middle .exit)) (now (starts .entry)) (now (starts .exit))) r ⌝ }
+    ensures { λ r. ⌜ Exports (EditAnswered (now (pattern .entry)) (now (order .entry)) (now (array .entry)) (now (last .entry)) from to (now (block .entry)) (now (middle .entry)) (now (middle .exit)) (now (starts .entry)) (now (starts .exit))) r ⌝ }
 {
-    let answer = lyndon_edit::edit(pattern, array, last, from, to, block, middle, starts);
+    let answer = lyndon_edit::edit(pattern, order, array, last, from, to, block, middle, starts);
     flatten(answer)
+}
+
+#[no_mangle]
+pub extern "C" fn lyndon_edit_interface() -> u32
+    ensures { λ r. ⌜ r ≡ interface ⌝ }
+{
+    INTERFACE
 }

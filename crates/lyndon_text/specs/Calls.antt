@@ -4,10 +4,10 @@ use Prim.Native.Nat.{ℕ}
 use lib.ListN.{length}
 use Rattle.refusals.specs.Filled.{Fills}
 use Rattle.refusals.specs.declared.Filled.{Filled}
-use Rattle.refusals.specs.Refusals.{patternTooLong, tooShort}
-use Rattle.text.specs.Listing.{listingText}
+use Rattle.refusals.specs.Refusals.{notOrder, patternTooLong, tooShort}
+use Rattle.text.specs.Listing.{listingBy}
 
 -- write_listing; what it counts are bytes
-abbrev pub ListingWritten : List ℕ → List ℕ → List ℕ → Filled → Type 0
-ListingWritten s buffer buffer′ r =
-    Fills (patternTooLong s ∷ tooShort (length (listingText s)) (length buffer) ∷ []) (listingText s) (length (listingText s)) buffer buffer′ r
+abbrev pub ListingWritten : List ℕ → List ℕ → List ℕ → List ℕ → Filled → Type 0
+ListingWritten s order buffer buffer′ r =
+    Fills (notOrder order ∷ patternTooLong s ∷ tooShort (length (listingBy order s)) (length buffer) ∷ []) (listingBy order s) (length (listingBy order s)) buffer buffer′ r

@@ -1,7 +1,8 @@
 // The public library on one pattern: longest words, whether a string is a Lyndon word, least rotation, tree. Factors and tables are `lyndon`.
-// Each call answers the first of its refusals, in number order, and leaves the work to the crates below; none of them requires anything.
+// Each call answers the first of its refusals, in their order, and leaves the work to the crates below; none of them requires anything.
 use longest::measure;
 use longest::write_longest;
+use ranks::test_order;
 use refusals::Filled;
 use refusals::MAX_PATTERN;
 use refusals::MAX_TREE;
@@ -34,10 +35,20 @@ pub struct Position {
     pub start: usize,
 }
 
-// The length of the longest Lyndon substrings, and all their starts. Refusals 1, 8.
-pub fn longest_words(pattern: &[u8], starts: &mut [u16]) -> Starts
-    ensures { λ r. ⌜ StartsListed (now (pattern .entry)) (now (starts .entry)) (now (starts .exit)) r ⌝ }
+// The length of the longest Lyndon substrings, and all their starts. Refusals 13, 1, 8.
+pub fn longest_words(pattern: &[u8], order: &[u8], starts: &mut [u16]) -> Starts
+    ensures { λ r. ⌜ StartsListed (now (pattern .entry)) (now (order .entry)) (now (starts .entry)) (now (starts .exit)) r ⌝ }
 {
+    let tested = test_order(order);
+    if !tested.order {
+        return Starts {
+            refusal: 13,
+            length: 0,
+            count: 0,
+        };
+    }
+    let used = tested.used;
+    let ranks = &order[..used];
     if MAX_PATTERN < pattern.len() {
         return Starts {
             refusal: 1,
@@ -45,7 +56,7 @@ pub fn longest_words(pattern: &[u8], starts: &mut [u16]) -> Starts
             count: 0,
         };
     }
-    let m = measure(pattern);
+    let m = measure(pattern, ranks);
     let found = m.found;
     let length = found.length;
     let count = found.count;
@@ -56,7 +67,7 @@ pub fn longest_words(pattern: &[u8], starts: &mut [u16]) -> Starts
             count: 0,
         };
     }
-    write_longest(pattern, found, m.run, starts);
+    write_longest(pattern, ranks, found, m.run, starts);
     Starts {
         refusal: 0,
         length,
@@ -64,37 +75,55 @@ pub fn longest_words(pattern: &[u8], starts: &mut [u16]) -> Starts
     }
 }
 
-// Where the first of the longest Lyndon substrings is; both numbers are 0 where the pattern is empty or too long. For C, which takes no part.
-pub fn longest_word_place(pattern: &[u8]) -> WordPlace
-    ensures { λ r. ⌜ (r .start, r .length) ≡ wordPlace (now (pattern .entry)) ⌝ }
+// Where the first of the longest Lyndon substrings is; both numbers are 0 where the pattern is empty or refused. For C, which takes no part.
+pub fn longest_word_place(pattern: &[u8], order: &[u8]) -> WordPlace
+    ensures { λ r. ⌜ (r .start, r .length) ≡ wordPlace (now (pattern .entry)) (now (order .entry)) ⌝ }
 {
+    let tested = test_order(order);
+    if !tested.order {
+        return WordPlace {
+            start: 0,
+            length: 0,
+        };
+    }
+    let used = tested.used;
+    let ranks = &order[..used];
     if MAX_PATTERN < pattern.len() {
         return WordPlace {
             start: 0,
             length: 0,
         };
     }
-    let m = measure(pattern);
+    let m = measure(pattern, ranks);
     let found = m.found;
     let start = found.start;
     let length = found.length;
     WordPlace { start, length }
 }
 
-// The first of the longest Lyndon substrings, as a part of the pattern; the empty part where the pattern is too long.
-pub fn longest_word(pattern: &[u8]) -> &[u8]
-    ensures { λ r. ⌜ WordCut (now (pattern .entry)) (pattern .entry .ptr) (now r) (r .ptr) ⌝ }
+// The first of the longest Lyndon substrings, as a part of the pattern; the empty part where the call is refused.
+pub fn longest_word<'a>(pattern: &'a [u8], order: &[u8]) -> &'a [u8]
+    ensures { λ r. ⌜ WordCut (now (pattern .entry)) (now (order .entry)) (pattern .entry .ptr) (now r) (r .ptr) ⌝ }
 {
-    let word = longest_word_place(pattern);
+    let word = longest_word_place(pattern, order);
     let start = word.start;
     let end = start + word.length;
     &pattern[start..end]
 }
 
-// Whether the string is a Lyndon word. Refusal 1.
-pub fn is_lyndon(word: &[u8]) -> Verdict
-    ensures { λ r. ⌜ LyndonTold (now (word .entry)) r ⌝ }
+// Whether the string is a Lyndon word. Refusals 13, 1.
+pub fn is_lyndon(word: &[u8], order: &[u8]) -> Verdict
+    ensures { λ r. ⌜ LyndonTold (now (word .entry)) (now (order .entry)) r ⌝ }
 {
+    let tested = test_order(order);
+    if !tested.order {
+        return Verdict {
+            refusal: 13,
+            yes: false,
+        };
+    }
+    let used = tested.used;
+    let ranks = &order[..used];
     if MAX_PATTERN < word.len() {
         return Verdict {
             refusal: 1,
@@ -107,17 +136,26 @@ pub fn is_lyndon(word: &[u8]) -> Verdict
             yes: false,
         };
     }
-    let first = next_group(word, 0);
+    let first = next_group(word, ranks, 0);
     Verdict {
         refusal: 0,
         yes: first.length == word.len(),
     }
 }
 
-// The start of the least rotation, 0 for the empty pattern. Refusals 1, 10.
-pub fn least_rotation(pattern: &[u8]) -> Position
-    ensures { λ r. ⌜ RotationFound (now (pattern .entry)) r ⌝ }
+// The start of the least rotation, 0 for the empty pattern. Refusals 13, 1, 10.
+pub fn least_rotation(pattern: &[u8], order: &[u8]) -> Position
+    ensures { λ r. ⌜ RotationFound (now (pattern .entry)) (now (order .entry)) r ⌝ }
 {
+    let tested = test_order(order);
+    if !tested.order {
+        return Position {
+            refusal: 13,
+            start: 0,
+        };
+    }
+    let used = tested.used;
+    let ranks = &order[..used];
     let n = pattern.len();
     if MAX_PATTERN < n {
         return Position {
@@ -125,7 +163,7 @@ pub fn least_rotation(pattern: &[u8]) -> Position
             start: 0,
         };
     }
-    let found = least_start(pattern);
+    let found = least_start(pattern, ranks);
     if found.repeated {
         return Position {
             refusal: 10,
@@ -138,22 +176,31 @@ pub fn least_rotation(pattern: &[u8]) -> Position
     }
 }
 
-// The nodes of the Lyndon tree, two numbers each: start, length. Refusals 6, 7, 8.
-pub fn lyndon_tree(word: &[u8], nodes: &mut [u16]) -> Filled
-    ensures { λ r. ⌜ TreeListed (now (word .entry)) (now (nodes .entry)) (now (nodes .exit)) r ⌝ }
+// The nodes of the Lyndon tree, two numbers each: start, length. Refusals 13, 6, 7, 8.
+pub fn lyndon_tree(word: &[u8], order: &[u8], nodes: &mut [u16]) -> Filled
+    ensures { λ r. ⌜ TreeListed (now (word .entry)) (now (order .entry)) (now (nodes .entry)) (now (nodes .exit)) r ⌝ }
 {
+    let tested = test_order(order);
+    if !tested.order {
+        return refused(13);
+    }
+    let used = tested.used;
+    let ranks = &order[..used];
     let n = word.len();
     if MAX_TREE < n {
         return refused(6);
     }
-    let verdict = is_lyndon(word);
-    if !verdict.yes {
+    if n == 0 {
+        return refused(7);
+    }
+    let first = next_group(word, ranks, 0);
+    if first.length != n {
         return refused(7);
     }
     let count = 2 * n - 1;
     if nodes.len() < 2 * count {
         return refused(8);
     }
-    write_nodes(word, 0, n, nodes, 0);
+    write_nodes(word, ranks, 0, n, nodes, 0);
     Filled { refusal: 0, count }
 }

@@ -6,6 +6,7 @@ ghost use mathlib.Core.Logic.{_⊎_};
 ghost use mathlib.Core.Path.{_≡_};
 ghost use Prim.Native.Nat.{_+_, _*_, _<_, _≤_};
 ghost use lib.ListN.{length, getD};
+ghost use Rattle.ranks.specs.Ranks.{ranked};
 ghost use Rattle.memo.specs.Memo.{Alike, Slot, Memo, Knows};
 
 // A number of a row.
@@ -39,9 +40,9 @@ pub struct Known {
 }
 
 // What the memo tells of the place i + d, with which f bytes from i on agree; few are not looked up, unless a run may go on.
-pub fn recall(s: &[u8], memo: &[u16], i: usize, d: usize, f: usize) -> Known
-    requires { ⌜ Memo (now s) (now memo) × (i + d < length (now s)) × Alike (now s) i (i + d) f ⌝ }
-    ensures { λ r. ⌜ Knows (now (s .entry)) i d (r .edge) (r .shared) ⌝ }
+pub fn recall(s: &[u8], ranks: &[u8], memo: &[u16], i: usize, d: usize, f: usize) -> Known
+    requires { ⌜ Memo (ranked (now ranks) (now s)) (now memo) × (i + d < length (now s)) × Alike (ranked (now ranks) (now s)) i (i + d) f ⌝ }
+    ensures { λ r. ⌜ Knows (ranked (now (ranks .entry)) (now (s .entry))) i d (r .edge) (r .shared) ⌝ }
 {
     if f < 16 {
         if f != d {
@@ -77,9 +78,9 @@ fn slot_for(i: usize, e: usize) -> usize
 }
 
 // Keeps what was found of place i, where it is worth a slot and the numbers fit.
-pub fn keep(s: &[u8], memo: &mut [u16], i: usize, e: usize, d: usize, run: usize)
-    requires { ⌜ Memo (now s) (now memo) × (i < length (now s)) × Slot (now s) i e d run ⌝ }
-    ensures { λ _. ⌜ Memo (now (s .entry)) (now (memo .exit)) ⌝ }
+pub fn keep(s: &[u8], ranks: &[u8], memo: &mut [u16], i: usize, e: usize, d: usize, run: usize)
+    requires { ⌜ Memo (ranked (now ranks) (now s)) (now memo) × (i < length (now s)) × Slot (ranked (now ranks) (now s)) i e d run ⌝ }
+    ensures { λ _. ⌜ Memo (ranked (now (ranks .entry)) (now (s .entry))) (now (memo .exit)) ⌝ }
 {
     if e < 16 {
         return;

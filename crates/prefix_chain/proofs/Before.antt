@@ -15,22 +15,27 @@ use Rattle.words.proofs.Factors.{join-factors}
 use Rattle.words.proofs.Groups.{groups-repeat}
 use Rattle.words.proofs.Stored.{stored-long}
 use Rattle.words.proofs.Tables.{last-some, last-fits, chain-prefix, last-factors-entry, last-factors-length}
+use Rattle.ranks.specs.Ranks.{Bytes, ranked}
+use Rattle.ranks.specs.Inner.{Ranks}
+use Rattle.ranks.proofs.Ranked.{length-ranked, ranked-part, bytes-take, bytes-drop}
+use Rattle.ranks.proofs.Shared.{same-ranked}
 use Rattle.prefix_chain.specs.Last.{LastGroup}
 use Rattle.prefix_chain.proofs.Parted.{Parted, parted, starts-repeat}
 
--- a row whose first entries are the table of last factors
-module _ (s row : List ℕ) (h : take (length s) row ≡ lastFactors s) where
+-- a row whose first entries are the table of last factors of a pattern's ranks
+module _ (o s row : List ℕ) (h : take (length s) row ≡ lastFactors (ranked o s)) where
   pub table-room : length s ≤ length row
-  table-room = stored-long (length s) row (lastFactors s) (last-factors-length s) h
+  table-room = stored-long (length s) row (lastFactors (ranked o s)) (last-factors-length (ranked o s) ∙ length-ranked o s) h
 
   module _ (q : ℕ) (l : 0 < q) (m : q ≤ length s) where
-    pub table-entry : getD row (q - 1) 0 ≡ lastFactor s q
+    pub table-entry : getD row (q - 1) 0 ≡ lastFactor (ranked o s) q
     table-entry =
         let e : q - 1 + 1 ≡ q = omega arith in
-        sym (getD-take (length s) row (q - 1) 0 (omega arith)) ∙ ap (λ t. getD t (q - 1) 0) h ∙ rw e at (last-factors-entry s (q - 1) (omega arith))
+        let n : q - 1 < length (ranked o s) = omega (arith, length-ranked o s) in
+        sym (getD-take (length s) row (q - 1) 0 (omega arith)) ∙ ap (λ t. getD t (q - 1) 0) h ∙ rw e at (last-factors-entry (ranked o s) (q - 1) n)
 
     pub table-fits : getD row (q - 1) 0 ≤ q
-    table-fits = rw table-entry (last-fits s q l m)
+    table-fits = rw table-entry (last-fits (ranked o s) q l (omega (arith, length-ranked o s)))
 
 abbrev lastWord : List ℕ → ℕ → ℕ → List ℕ
 lastWord s q size = take size (drop (q - size) s)
@@ -101,32 +106,40 @@ module _ {s : List ℕ} {q size power j : ℕ} (c : Equal s q size power j) wher
         (false-same (lastWord s j (lastFactor s j)) (lastWord s q size)
         (λ e. h (omega (arith, ap length e, long, word-length s (j - lastFactor s j) (lastFactor s j) (omega (arith, fits))))))
 
-    -- b is whether the word that ends at j is the one that ends at q
-    module _ {b : Bool} (k : x ≡ size) (h : b ≡ same (take (j - (j - size)) (drop (j - size) s)) (take (q - (q - size)) (drop (q - size) s))) where
-      words : same (lastWord s j size) (lastWord s q size) ≡ b
-      words =
-          let m : j - (j - size) ≡ size = omega (arith, fits) in
-          let n : q - (q - size) ≡ size = omega arith in
-          sym (rw (m, n) at h)
+-- b is whether the bytes of the word that ends at j are those of the one that ends at q, and x the entry that ends at j
+module _ {o : List ℕ} (v : Ranks o) (s : List ℕ) (u : Bytes s) {q size power j x : ℕ} {b : Bool} (c : Equal (ranked o s) q size power j) (l : 0 < j)
+    (entry : x ≡ lastFactor (ranked o s) j) (k : x ≡ size) (h : b ≡ same (take (j - (j - size)) (drop (j - size) s)) (take (q - (q - size)) (drop (q - size) s)))
+  where
+    bytes : (p : ℕ) → Bytes (take size (drop (p - size) s))
+    bytes p = bytes-take size (drop (p - size) s) (bytes-drop (p - size) s u)
 
-      pub stop-word : b ≡ false → LastGroup s q size power
-      stop-word e = stop-other (rw (← entry, k) (words ∙ e))
+    words : same (lastWord (ranked o s) j size) (lastWord (ranked o s) q size) ≡ b
+    words =
+        let m : j - (j - size) ≡ size = omega (arith, fits c l entry) in
+        let n : q - (q - size) ≡ size = omega arith in
+        rw (← ranked-part o size (j - size) s, ← ranked-part o size (q - size) s)
+        (same-ranked v (take size (drop (j - size) s)) (take size (drop (q - size) s)) (bytes j) (bytes q) ∙ sym (rw (m, n) at h))
 
-      pub equal-turn : b ≡ true → Equal s q size (power + 1) (j - size)
-      equal-turn e =
-          let w = lastWord s q size in
-          let f : lastFactor s j ≡ size = sym entry ∙ k in
-          let n : factors (take j s) ≡ factors (take (j - size) s) ++ (w ∷ []) =
-          rw (← same-true (lastWord s j size) w (words ∙ e), ← f) (chain-prefix s j l (omega arith)) in
-          let g : 1 + power ≡ power + 1 = omega arith in
-          record {
-            factor = c .factor;
-            some = omega arith;
-            few = omega (arith, fits);
-            last = omega (arith, fits);
-            at = omega (arith, fits);
-            ends = c .ends;
-            parts =
-                c .parts ∙ ap (λ t. t ++ replicate power w) n ∙ append-assoc (factors (take (j - size) s)) (w ∷ []) (replicate power w)
-                ∙ ap (λ t. factors (take (j - size) s) ++ t) (rw g at (replicate-append-replicate 1 power w));
-          }
+    pub stop-word : b ≡ false → LastGroup (ranked o s) q size power
+    stop-word e = stop-other c l entry (rw (← entry, k) (words ∙ e))
+
+    pub equal-turn : b ≡ true → Equal (ranked o s) q size (power + 1) (j - size)
+    equal-turn e =
+        let s′ = ranked o s in
+        let w = lastWord s′ q size in
+        let f : lastFactor s′ j ≡ size = sym entry ∙ k in
+        let n : factors (take j s′) ≡ factors (take (j - size) s′) ++ (w ∷ []) =
+        rw (← same-true (lastWord s′ j size) w (words ∙ e), ← f) (chain-prefix s′ j l (omega arith)) in
+        let g : 1 + power ≡ power + 1 = omega arith in
+        let i = fits c l entry in
+        record {
+          factor = c .factor;
+          some = omega arith;
+          few = omega arith;
+          last = omega arith;
+          at = omega arith;
+          ends = c .ends;
+          parts =
+              c .parts ∙ ap (λ t. t ++ replicate power w) n ∙ append-assoc (factors (take (j - size) s′)) (w ∷ []) (replicate power w)
+              ∙ ap (λ t. factors (take (j - size) s′) ++ t) (rw g at (replicate-append-replicate 1 power w));
+        }

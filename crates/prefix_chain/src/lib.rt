@@ -5,15 +5,17 @@ use scan::agree;
 ghost use mathlib.Core.Path.{_≡_};
 ghost use Prim.Native.Nat.{_*_, _<_, _≤_};
 ghost use lib.ListN.{length, take};
+ghost use Rattle.ranks.specs.Inner.{Ranks};
+ghost use Rattle.ranks.specs.Ranks.{ranked};
 ghost use Rattle.rows.specs.Row.{written};
 ghost use Rattle.words.specs.Factors.{groupNumbers};
 ghost use Rattle.words.specs.Tables.{lastFactors, prefixGroups};
 ghost use Rattle.prefix_chain.specs.Last.{LastGroup};
 
 // The group of factors that ends at q, of the first q symbols.
-fn group_before(s: &[u8], table: &[u16], q: usize) -> Stretch
-    requires { ⌜ (0 < q) × (q ≤ length (now s)) × (take (length (now s)) (now table) ≡ lastFactors (now s)) ⌝ }
-    ensures { λ r. ⌜ LastGroup (now (s .entry)) q (r .length) (r .power) ⌝ }
+fn group_before(s: &[u8], ranks: &[u8], table: &[u16], q: usize) -> Stretch
+    requires { ⌜ Ranks (now ranks) × (0 < q) × (q ≤ length (now s)) × (take (length (now s)) (now table) ≡ lastFactors (ranked (now ranks) (now s))) ⌝ }
+    ensures { λ r. ⌜ LastGroup (ranked (now (ranks .entry)) (now (s .entry))) q (r .length) (r .power) ⌝ }
 {
     let length = table[q - 1] as usize;
     let from = q - length;
@@ -34,14 +36,14 @@ fn group_before(s: &[u8], table: &[u16], q: usize) -> Stretch
 }
 
 // The number of groups of the first `end` symbols.
-pub fn count_prefix(s: &[u8], table: &[u16], end: usize) -> usize
-    requires { ⌜ (end ≤ length (now s)) × (take (length (now s)) (now table) ≡ lastFactors (now s)) ⌝ }
-    ensures { λ r. ⌜ r ≡ length (prefixGroups (now (s .entry)) end) ⌝ }
+pub fn count_prefix(s: &[u8], ranks: &[u8], table: &[u16], end: usize) -> usize
+    requires { ⌜ Ranks (now ranks) × (end ≤ length (now s)) × (take (length (now s)) (now table) ≡ lastFactors (ranked (now ranks) (now s))) ⌝ }
+    ensures { λ r. ⌜ r ≡ length (prefixGroups (ranked (now (ranks .entry)) (now (s .entry))) end) ⌝ }
 {
     let mut count = 0;
     let mut rest = end;
     while 0 < rest {
-        let last = group_before(s, table, rest);
+        let last = group_before(s, ranks, table, rest);
         count += 1;
         rest -= last.power * last.length;
     }
@@ -49,15 +51,22 @@ pub fn count_prefix(s: &[u8], table: &[u16], end: usize) -> usize
 }
 
 // Writes the groups of the first `end` symbols, of which there are `count`, three numbers each, from the last to the first.
-pub fn write_prefix(s: &[u8], table: &[u16], end: usize, count: usize, row: &mut [u16])
-    requires { ⌜ (length (now s) ≤ 65535) × (end ≤ length (now s)) × (take (length (now s)) (now table) ≡ lastFactors (now s))
-        × (count ≡ length (prefixGroups (now s) end)) × (3 * count ≤ length (now row)) ⌝ }
-    ensures { λ _. ⌜ now (row .exit) ≡ written (groupNumbers (prefixGroups (now (s .entry)) end)) (now (row .entry)) ⌝ }
+pub fn write_prefix(
+    s: &[u8],
+    ranks: &[u8],
+    table: &[u16],
+    end: usize,
+    count: usize,
+    row: &mut [u16],
+)
+    requires { ⌜ Ranks (now ranks) × (length (now s) ≤ 65535) × (end ≤ length (now s)) × (take (length (now s)) (now table) ≡ lastFactors (ranked (now ranks) (now s)))
+        × (count ≡ length (prefixGroups (ranked (now ranks) (now s)) end)) × (3 * count ≤ length (now row)) ⌝ }
+    ensures { λ _. ⌜ now (row .exit) ≡ written (groupNumbers (prefixGroups (ranked (now (ranks .entry)) (now (s .entry))) end)) (now (row .entry)) ⌝ }
 {
     let mut at = 3 * count;
     let mut q = end;
     while 0 < q {
-        let last = group_before(s, table, q);
+        let last = group_before(s, ranks, table, q);
         q -= last.power * last.length;
         at -= 3;
         row[at] = q as u16;

@@ -2,7 +2,7 @@
 use mathlib.Core.Bool.{Bool, true, false}
 use mathlib.Core.List.{List}
 use mathlib.Core.Logic.{_⊎_, inl, inr}
-use mathlib.Core.Path.{_≡_, sym, ap, _∙_}
+use mathlib.Core.Path.{_≡_, ap}
 use Prim.Native.Nat.{ℕ, _+_, _-_, _≤_, _<_}
 use native.Mathlib.Omega.{arith}
 use lib.ListN.{length}
@@ -43,7 +43,7 @@ module _ {s : List ℕ} {i j d edge shared : ℕ} (m : Merging s i j d edge shar
     merging-turn entry h u edge′ shared′ k =
         let e : i + (j - i) + longestAt s (i + (j - i)) ≡ j + y = omega (arith, at, ap (longestAt s) at) in
         record {
-          grown = grown-turn (m .grown) y entry h (sym (b .less) ∙ u);
+          grown = grown-turn (m .grown) y entry h (b .less) u;
           low = omega (arith, at);
           mine = k .joins;
           last = rw e at (k .ends);
@@ -51,7 +51,7 @@ module _ {s : List ℕ} {i j d edge shared : ℕ} (m : Merging s i j d edge shar
 
     module _ (entry : y ≡ longestAt s j) (h : j < length s) (u : up ≡ false) where
       pub merging-stop : j - i ≡ longestAt s i
-      merging-stop = grown-stop (m .grown) y entry h (sym (b .less) ∙ u)
+      merging-stop = grown-stop (m .grown) y entry h (b .less) u
 
       pub merging-slot : (run : ℕ) → (run ≡ shared) ⊎ ((run ≤ edge) × (run ≤ e)) → Slot s i e d run
       merging-slot run r =

@@ -5,11 +5,14 @@ use memo::best;
 use memo::entry;
 use memo::keep;
 use memo::recall;
+use ranks::below;
 use scan::agree_bytes;
 use scan::shorter;
 ghost use mathlib.Core.Path.{_≡_};
 ghost use Prim.Native.Nat.{_+_, _<_, _≤_};
 ghost use lib.ListN.{length, take};
+ghost use Rattle.ranks.specs.Inner.{Ranks};
+ghost use Rattle.ranks.specs.Ranks.{ranked};
 ghost use Rattle.rows.specs.Filled.{Filled};
 ghost use Rattle.rows.specs.Row.{written};
 ghost use Rattle.words.specs.Order.{same};
@@ -24,15 +27,18 @@ struct Step {
 }
 
 // The word from i up to j beside the next one, of y bytes; the first `known` bytes agree. Mostly the first bytes tell.
-fn beside(s: &[u8], i: usize, j: usize, y: usize, known: usize) -> Step
-    requires { ⌜ (i < j) × (0 < y) × (j + y ≤ length (now s)) × Alike (now s) i j known ⌝ }
-    ensures { λ r. ⌜ Beside (now (s .entry)) i j y (r .e) (r .up) ⌝ }
+fn beside(s: &[u8], ranks: &[u8], i: usize, j: usize, y: usize, known: usize) -> Step
+    requires { ⌜ Ranks (now ranks) × (i < j) × (0 < y) × (j + y ≤ length (now s)) × Alike (ranked (now ranks) (now s)) i j known ⌝ }
+    ensures { λ r. ⌜ Beside (ranked (now (ranks .entry)) (now (s .entry))) i j y (r .e) (r .up) ⌝ }
 {
     if known == 0 {
         let c = s[i];
         let d = s[j];
         if c != d {
-            return Step { e: 0, up: c < d };
+            return Step {
+                e: 0,
+                up: below(ranks, c, d),
+            };
         }
     }
     let len = shorter(j - i, y);
@@ -40,7 +46,10 @@ fn beside(s: &[u8], i: usize, j: usize, y: usize, known: usize) -> Step
     if e < len {
         let x = s[i + e];
         let z = s[j + e];
-        return Step { e, up: x < z };
+        return Step {
+            e,
+            up: below(ranks, x, z),
+        };
     }
     Step { e, up: len < y }
 }
@@ -52,14 +61,14 @@ struct Merged {
 }
 
 // The length of the longest Lyndon substring at i, from the entries of the table behind i, by comparison alone.
-fn merge_at(s: &[u8], table: &[u16], i: usize) -> Merged
-    requires { ⌜ (i < length (now s)) × EntriesFrom (now s) (now table) (i + 1) ⌝ }
-    ensures { λ r. ⌜ r .length ≡ longestAt (now (s .entry)) i ⌝ }
+fn merge_at(s: &[u8], ranks: &[u8], table: &[u16], i: usize) -> Merged
+    requires { ⌜ Ranks (now ranks) × (i < length (now s)) × EntriesFrom (ranked (now ranks) (now s)) (now table) (i + 1) ⌝ }
+    ensures { λ r. ⌜ r .length ≡ longestAt (ranked (now (ranks .entry)) (now (s .entry))) i ⌝ }
 {
     let mut j = i + 1;
     while j < s.len() {
         let y = entry(table, j);
-        let step = beside(s, i, j, y, 0);
+        let step = beside(s, ranks, i, j, y, 0);
         let e = step.e;
         if !step.up {
             return Merged {
@@ -76,9 +85,9 @@ fn merge_at(s: &[u8], table: &[u16], i: usize) -> Merged
 }
 
 // The same with a memo: what is known of the last word taken in, which starts at i + d, tells how far i agrees with the next.
-fn longest_at(s: &[u8], table: &[u16], i: usize, memo: &mut [u16]) -> usize
-    requires { ⌜ (i < length (now s)) × EntriesFrom (now s) (now table) (i + 1) × Memo (now s) (now memo) ⌝ }
-    ensures { λ r. ⌜ Reached (now (s .entry)) i (now (memo .exit)) r ⌝ }
+fn longest_at(s: &[u8], ranks: &[u8], table: &[u16], i: usize, memo: &mut [u16]) -> usize
+    requires { ⌜ Ranks (now ranks) × (i < length (now s)) × EntriesFrom (ranked (now ranks) (now s)) (now table) (i + 1) × Memo (ranked (now ranks) (now s)) (now memo) ⌝ }
+    ensures { λ r. ⌜ Reached (ranked (now (ranks .entry)) (now (s .entry))) i (now (memo .exit)) r ⌝ }
 {
     let mut j = i + 1;
     let mut d = 0;
@@ -86,14 +95,14 @@ fn longest_at(s: &[u8], table: &[u16], i: usize, memo: &mut [u16]) -> usize
     let mut shared = 0;
     while j < s.len() {
         let y = entry(table, j);
-        let next = beside(s, i, j, y, shorter(edge, shared));
+        let next = beside(s, ranks, i, j, y, shorter(edge, shared));
         let e = next.e;
         if !next.up {
-            keep(s, memo, i, e, d, best(shared, edge, e));
+            keep(s, ranks, memo, i, e, d, best(shared, edge, e));
             return j - i;
         }
         d = j - i;
-        let k = recall(s, memo, i, d, e);
+        let k = recall(s, ranks, memo, i, d, e);
         edge = k.edge;
         shared = k.shared;
         j += y;
@@ -107,15 +116,15 @@ fn allowance(s: &[u8]) -> usize {
 }
 
 // Makes entries by comparison alone, from the right, for as long as that is cheap: the place from which on they are made.
-fn make_plain(s: &[u8], table: &mut [u16]) -> usize
-    requires { ⌜ (length (now s) ≤ 65535) × (length (now s) ≤ length (now table)) ⌝ }
-    ensures { λ r. ⌜ (r ≤ length (now (s .entry))) × Filled (longestAt (now (s .entry))) (length (now (s .entry))) (now (table .entry)) (now (table .exit)) r (length (now (s .entry))) ⌝ }
+fn make_plain(s: &[u8], ranks: &[u8], table: &mut [u16]) -> usize
+    requires { ⌜ Ranks (now ranks) × (length (now s) ≤ 65535) × (length (now s) ≤ length (now table)) ⌝ }
+    ensures { λ r. ⌜ (r ≤ length (now (s .entry))) × Filled (longestAt (ranked (now (ranks .entry)) (now (s .entry)))) (length (now (s .entry))) (now (table .entry)) (now (table .exit)) r (length (now (s .entry))) ⌝ }
 {
     let mut made = s.len();
     let mut budget = allowance(s);
     while 0 < made {
         made -= 1;
-        let m = merge_at(s, table, made);
+        let m = merge_at(s, ranks, table, made);
         let l = m.length;
         let cost = m.last / 16;
         table[made] = l as u16;
@@ -128,34 +137,34 @@ fn make_plain(s: &[u8], table: &mut [u16]) -> usize
 }
 
 // Makes the entries before `from`, with a true memo.
-fn make_by(s: &[u8], table: &mut [u16], from: usize, memo: &mut [u16])
-    requires { ⌜ (length (now s) ≤ 65535) × (from ≤ length (now s)) × EntriesFrom (now s) (now table) from × Memo (now s) (now memo) ⌝ }
-    ensures { λ _. ⌜ Filled (longestAt (now (s .entry))) (length (now (s .entry))) (now (table .entry)) (now (table .exit)) 0 (length (now (s .entry))) ⌝ }
+fn make_by(s: &[u8], ranks: &[u8], table: &mut [u16], from: usize, memo: &mut [u16])
+    requires { ⌜ Ranks (now ranks) × (length (now s) ≤ 65535) × (from ≤ length (now s)) × EntriesFrom (ranked (now ranks) (now s)) (now table) from × Memo (ranked (now ranks) (now s)) (now memo) ⌝ }
+    ensures { λ _. ⌜ Filled (longestAt (ranked (now (ranks .entry)) (now (s .entry)))) (length (now (s .entry))) (now (table .entry)) (now (table .exit)) 0 (length (now (s .entry))) ⌝ }
 {
     let mut i = from;
     while 0 < i {
         i -= 1;
-        let l = longest_at(s, table, i, memo);
+        let l = longest_at(s, ranks, table, i, memo);
         table[i] = l as u16;
     }
 }
 
 // Makes the entries before `from`, where those from there on are right.
-fn make_rest(s: &[u8], table: &mut [u16], from: usize)
-    requires { ⌜ (length (now s) ≤ 65535) × (from ≤ length (now s)) × EntriesFrom (now s) (now table) from ⌝ }
-    ensures { λ _. ⌜ Filled (longestAt (now (s .entry))) (length (now (s .entry))) (now (table .entry)) (now (table .exit)) 0 (length (now (s .entry))) ⌝ }
+fn make_rest(s: &[u8], ranks: &[u8], table: &mut [u16], from: usize)
+    requires { ⌜ Ranks (now ranks) × (length (now s) ≤ 65535) × (from ≤ length (now s)) × EntriesFrom (ranked (now ranks) (now s)) (now table) from ⌝ }
+    ensures { λ _. ⌜ Filled (longestAt (ranked (now (ranks .entry)) (now (s .entry)))) (length (now (s .entry))) (now (table .entry)) (now (table .exit)) 0 (length (now (s .entry))) ⌝ }
 {
     let mut memo = [0u16; 1024];
-    make_by(s, table, from, &mut memo);
+    make_by(s, ranks, table, from, &mut memo);
 }
 
-pub fn make_lyndon_array(s: &[u8], table: &mut [u16])
-    requires { ⌜ (length (now s) ≤ 65535) × (length (now s) ≤ length (now table)) ⌝ }
-    ensures { λ _. ⌜ now (table .exit) ≡ written (lyndonArray (now (s .entry))) (now (table .entry)) ⌝ }
+pub fn make_lyndon_array(s: &[u8], ranks: &[u8], table: &mut [u16])
+    requires { ⌜ Ranks (now ranks) × (length (now s) ≤ 65535) × (length (now s) ≤ length (now table)) ⌝ }
+    ensures { λ _. ⌜ now (table .exit) ≡ written (lyndonArray (ranked (now (ranks .entry)) (now (s .entry)))) (now (table .entry)) ⌝ }
 {
-    let left = make_plain(s, table);
+    let left = make_plain(s, ranks, table);
     if 0 < left {
-        make_rest(s, table, left);
+        make_rest(s, ranks, table, left);
     }
 }
 
@@ -166,15 +175,15 @@ struct Tested {
 }
 
 // Tests entries by comparison alone, from the right, for as long as that is cheap.
-fn test_plain(s: &[u8], table: &[u16]) -> Tested
-    requires { ⌜ length (now s) ≤ length (now table) ⌝ }
-    ensures { λ r. ⌜ TestedTo (now (s .entry)) (now (table .entry)) (r .left) (r .wrong) ⌝ }
+fn test_plain(s: &[u8], ranks: &[u8], table: &[u16]) -> Tested
+    requires { ⌜ Ranks (now ranks) × (length (now s) ≤ length (now table)) ⌝ }
+    ensures { λ r. ⌜ TestedTo (ranked (now (ranks .entry)) (now (s .entry))) (now (table .entry)) (r .left) (r .wrong) ⌝ }
 {
     let mut tested = s.len();
     let mut budget = allowance(s);
     while 0 < tested {
         tested -= 1;
-        let m = merge_at(s, table, tested);
+        let m = merge_at(s, ranks, table, tested);
         let cost = m.last / 16;
         if entry(table, tested) != m.length {
             return Tested {
@@ -197,14 +206,14 @@ fn test_plain(s: &[u8], table: &[u16]) -> Tested
 }
 
 // Whether the entries before `from` are right, with a true memo, where those from there on are.
-fn test_by(s: &[u8], table: &[u16], from: usize, memo: &mut [u16]) -> bool
-    requires { ⌜ (from ≤ length (now s)) × EntriesFrom (now s) (now table) from × Memo (now s) (now memo) ⌝ }
-    ensures { λ r. ⌜ r ≡ same (take (length (now (s .entry))) (now (table .entry))) (lyndonArray (now (s .entry))) ⌝ }
+fn test_by(s: &[u8], ranks: &[u8], table: &[u16], from: usize, memo: &mut [u16]) -> bool
+    requires { ⌜ Ranks (now ranks) × (from ≤ length (now s)) × EntriesFrom (ranked (now ranks) (now s)) (now table) from × Memo (ranked (now ranks) (now s)) (now memo) ⌝ }
+    ensures { λ r. ⌜ r ≡ same (take (length (now (s .entry))) (now (table .entry))) (lyndonArray (ranked (now (ranks .entry)) (now (s .entry)))) ⌝ }
 {
     let mut left = from;
     while 0 < left {
         left -= 1;
-        let l = longest_at(s, table, left, memo);
+        let l = longest_at(s, ranks, table, left, memo);
         if entry(table, left) != l {
             return false;
         }
@@ -213,25 +222,25 @@ fn test_by(s: &[u8], table: &[u16], from: usize, memo: &mut [u16]) -> bool
 }
 
 // The same, with a new memo.
-fn test_rest(s: &[u8], table: &[u16], from: usize) -> bool
-    requires { ⌜ (from ≤ length (now s)) × EntriesFrom (now s) (now table) from ⌝ }
-    ensures { λ r. ⌜ r ≡ same (take (length (now (s .entry))) (now (table .entry))) (lyndonArray (now (s .entry))) ⌝ }
+fn test_rest(s: &[u8], ranks: &[u8], table: &[u16], from: usize) -> bool
+    requires { ⌜ Ranks (now ranks) × (from ≤ length (now s)) × EntriesFrom (ranked (now ranks) (now s)) (now table) from ⌝ }
+    ensures { λ r. ⌜ r ≡ same (take (length (now (s .entry))) (now (table .entry))) (lyndonArray (ranked (now (ranks .entry)) (now (s .entry)))) ⌝ }
 {
     let mut memo = [0u16; 1024];
-    test_by(s, table, from, &mut memo)
+    test_by(s, ranks, table, from, &mut memo)
 }
 
 // Whether the first entries of the table are the pattern's Lyndon array.
-pub fn is_lyndon_array(s: &[u8], table: &[u16]) -> bool
-    requires { ⌜ length (now s) ≤ length (now table) ⌝ }
-    ensures { λ r. ⌜ r ≡ same (take (length (now (s .entry))) (now (table .entry))) (lyndonArray (now (s .entry))) ⌝ }
+pub fn is_lyndon_array(s: &[u8], ranks: &[u8], table: &[u16]) -> bool
+    requires { ⌜ Ranks (now ranks) × (length (now s) ≤ length (now table)) ⌝ }
+    ensures { λ r. ⌜ r ≡ same (take (length (now (s .entry))) (now (table .entry))) (lyndonArray (ranked (now (ranks .entry)) (now (s .entry)))) ⌝ }
 {
-    let t = test_plain(s, table);
+    let t = test_plain(s, ranks, table);
     if t.wrong {
         return false;
     }
     if t.left == 0 {
         return true;
     }
-    test_rest(s, table, t.left)
+    test_rest(s, ranks, table, t.left)
 }

@@ -2,32 +2,32 @@
 use show::calls;
 use show::calls::OLD;
 
-fn answers(s: &[u8]) {
-    calls::longest_word(s);
-    calls::is_lyndon(s);
-    calls::least_rotation(s);
+fn answers(s: &[u8], order: &[u8]) {
+    calls::longest_word(s, order);
+    calls::is_lyndon(s, order);
+    calls::least_rotation(s, order);
 }
 
-fn fills(s: &[u8], room: usize) {
-    calls::factor(s, room);
-    calls::lyndon_array(s, room);
-    calls::last_factors(s, room);
-    calls::longest_words(s, room);
-    calls::lyndon_tree(s, room);
+fn fills(s: &[u8], order: &[u8], room: usize) {
+    calls::factor(s, order, room);
+    calls::lyndon_array(s, order, room);
+    calls::last_factors(s, order, room);
+    calls::longest_words(s, order, room);
+    calls::lyndon_tree(s, order, room);
 }
 
-fn parts(s: &[u8], table: &[u16], room: usize) {
-    calls::factor_prefix(s, table, 0, room);
-    calls::factor_suffix(s, table, 0, room);
-    calls::factor_prefix(s, table, 1, room);
-    calls::factor_suffix(s, table, 1, room);
+fn parts(s: &[u8], order: &[u8], table: &[u16], room: usize) {
+    calls::factor_prefix(s, order, table, 0, room);
+    calls::factor_suffix(s, order, table, 0, room);
+    calls::factor_prefix(s, order, table, 1, room);
+    calls::factor_suffix(s, order, table, 1, room);
 }
 
-pub(crate) fn run() {
+pub(crate) fn run(order: &[u8]) {
     show::heading(b"the empty pattern (P1)");
-    answers(b"");
-    fills(b"", 0);
-    fills(b"", 2);
-    parts(b"", &[], 0);
-    parts(b"", &[OLD; 2], 2);
+    answers(b"", order);
+    fills(b"", order, 0);
+    fills(b"", order, 2);
+    parts(b"", order, &[], 0);
+    parts(b"", order, &[OLD; 2], 2);
 }

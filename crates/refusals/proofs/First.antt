@@ -6,7 +6,8 @@ use Prim.Native.Nat.{ℕ, zero, suc, _≤_, _<_}
 use native.Mathlib.Omega.{arith}
 use lib.ListN.{length, take}
 use borrow.Author.Tests.{lt-ltb, le-ltb}
-use Rattle.refusals.specs.Refusals.{Refusal, firstOf, maxPattern, maxWanted, patternTooLong, pastEnd, notTable, tooShort, wantedTooLong}
+use Rattle.ranks.specs.Inner.{OrderTested}
+use Rattle.refusals.specs.Refusals.{Refusal, firstOf, maxPattern, maxWanted, notOrder, patternTooLong, pastEnd, notTable, tooShort, wantedTooLong}
 use Rattle.words.specs.Order.{same}
 
 pub data First : List Refusal → ℕ → Type 0 where
@@ -49,6 +50,20 @@ wanted-long t h = holds (lt-ltb maxWanted (length t) h)
 
 pub not-wanted-long : (t : List ℕ) {rs : List Refusal} {k : ℕ} → length t ≤ maxWanted → First rs k → First (wantedTooLong t ∷ rs) k
 not-wanted-long t h f = passes (le-ltb maxWanted (length t) h) f
+
+-- refusal 13, by what the test of an order tells
+module _ {order : List ℕ} {told : Bool} {used : ℕ} (t : OrderTested order told used) where
+  pub not-order : {rs : List Refusal} → told ≡ false → First (notOrder order ∷ rs) 13
+  not-order e = holds {r = notOrder order} (rw (← t .is, e))
+
+  pub an-order : {rs : List Refusal} {k : ℕ} → told ≡ true → First rs k → First (notOrder order ∷ rs) k
+  an-order e f = passes {r = notOrder order} (rw (← t .is, e)) f
+
+  pub first-not-order : (rs : List Refusal) → told ≡ false → firstOf (notOrder order ∷ rs) ≡ 13
+  first-not-order rs e = first-is (not-order {rs = rs} e)
+
+  pub first-order : (rs : List Refusal) → told ≡ true → firstOf (notOrder order ∷ rs) ≡ firstOf rs
+  first-order rs e = first-passes (notOrder order) rs (rw (← t .is, e))
 
 -- refusal 5, of a table with n entries
 module _ (table row : List ℕ) (n : ℕ) (size : length table ≡ n) where

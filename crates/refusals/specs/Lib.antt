@@ -1,3 +1,4 @@
--- Reading order: Refusals, Filled.
+-- Reading order: Refusals, Filled, Interface.
 pub mod Refusals
 pub mod Filled
+pub mod Interface

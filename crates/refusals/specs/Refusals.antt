@@ -4,6 +4,7 @@ use mathlib.Core.List.{List, [], _∷_}
 use Prim.Native.Nat.{ℕ, zero, suc}
 use lib.Dec.{ltb}
 use lib.ListN.{length, take}
+use Rattle.ranks.specs.Ranks.{isOrder}
 use Rattle.rows.specs.Row.{written}
 use Rattle.words.specs.Edit.{edited}
 use Rattle.words.specs.Order.{lyndon, same}
@@ -80,6 +81,10 @@ wantedTooLong wanted = record { number = 11; holds = ltb maxWanted (length wante
 -- No byte pattern has the wanted table. Nothing here computes it: the call's contract says what the flag means.
 abbrev pub noPattern : Bool → Refusal
 noPattern unrealisable = record { number = 12; holds = unrealisable }
+
+-- The ranks are not exactly 256 entries that hold each of 0 to 255 once.
+abbrev pub notOrder : List ℕ → Refusal
+notOrder order = record { number = 13; holds = not (isOrder order) }
 
 -- The refusals of an edit that need no result: 1 to 5.
 abbrev pub editRefusals : List ℕ → List ℕ → List ℕ → ℕ → ℕ → List ℕ → List Refusal

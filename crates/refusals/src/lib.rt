@@ -1,5 +1,5 @@
-// The limits that the refusals test, and the answer of a call that fills a row, once for all calls. The refusals' definitions, a number
-// and a test each, stand in specs/, and so does what a filled row holds.
+// The limits that the refusals test, and the answer of a call that fills a row, once for all calls; the number of the interface for C and Rust.
+// The refusals' definitions, a number and a test each, stand in specs/, and so does what a filled row holds.
 ghost use mathlib.Core.Path.{_≡_};
 
 // The longest pattern, stored or edited.
@@ -13,6 +13,9 @@ pub const MAX_TREE: usize = 256;
 
 // The longest wanted table.
 pub const MAX_WANTED: usize = 256;
+
+// The number of the interface that include/lyndon.h declares.
+pub const INTERFACE: u32 = 1;
 
 // The answer of a call that fills a row: the refusal's number, 0 for none, and how many entries of its kind it wrote.
 pub struct Filled {

@@ -1,2 +1,3 @@
 pub mod Follow
+pub mod Bytes
 pub mod Start

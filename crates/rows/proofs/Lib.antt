@@ -3,3 +3,4 @@ pub mod Written
 pub mod Puts
 pub mod Back
 pub mod Fill
+pub mod Block

@@ -1,6 +1,5 @@
 -- The group that a stopped scan gives: all whole words between its start and its stop.
 use mathlib.Core.List.{List, [], _∷_, _++_}
-use mathlib.Core.Logic.{_⊎_, inl, inr}
 use mathlib.Core.Path.{_≡_, refl, sym, ap, _∙_}
 use Prim.Native.Nat.{ℕ, zero, suc, _+_, _-_, _*_, _/_, _%_, _≤_, _<_}
 use native.Mathlib.Nat.{div-add-mod', mod-lt, le-div-iff-mul-le, div-mul-le-self, lt-div-mul-add, mul-pos}
@@ -8,8 +7,6 @@ use native.Mathlib.Omega.{arith}
 use lib.ListN.{length, take, drop, getD, replicate, drop-of-length-le}
 use Rattle.words.specs.Factors.{factors, Group}
 use Rattle.words.specs.Tables.{groups, suffixGroups}
-use Rattle.words.proofs.Bounded.{le-or-lt}
-use Rattle.scan.specs.Agrees.{Agrees}
 use Rattle.scan.specs.Group.{NextGroup}
 use Rattle.words.proofs.Scan.{Scan, Stops, scan-same, scan-up, scan-stops, scan-first, scan-again, scan-shift, scan-group}
 
@@ -49,19 +46,6 @@ module _ {s : List ℕ} {i j p : ℕ} (c : Scan s i j p) where
 
   pub stop-end : length s ≤ j → Stops s j p
   stop-end h k e l = absurd (omega arith)
-
--- the period goes on
-pub leap-same : {s : List ℕ} {i j p m : ℕ} → Scan s i j p → Agrees s (j - p) s j m → j + m ≤ length s → Scan s i (j + m) p
-leap-same {s} {i} {j} {p} {m} c a h =
-    record { some = c .some; fits = omega (arith, c .fits); ends = h; word = c .word; period = λ k l b. go k l b (le-or-lt j (k + p)) }
-  where
-    go : (k : ℕ) → i ≤ k → k + p < j + m → (j ≤ k + p) ⊎ (k + p < j) → getD s (k + p) 0 ≡ getD s k 0
-    go k l b (inl q) =
-        let t : ℕ = k + p - j in
-        let e : j - p + t ≡ k = omega (arith, c .fits) in
-        let f : j + t ≡ k + p = omega arith in
-        sym (rw (e, f) at (a .at t (omega arith)))
-    go k l b (inr q) = c .period k l q
 
 pub group-long : {s : List ℕ} {i size power : ℕ} → NextGroup s i size power → i < i + power * size
 group-long g = omega (arith, mul-pos (g .some) (g .factor))

@@ -1,7 +1,10 @@
 // Comparison of two strings, and Duval's scan: the group of factors that starts at a place of a pattern.
 // The inner loop of everything that lists factors; refusals and rows are left to the crates above.
-pub mod blocks;
-
+use leaps::agree_blocks;
+use leaps::leap;
+use leaps::next_gap;
+use ranks::below;
+use ranks::rank_of;
 ghost use mathlib.Core.Bool.{cond};
 ghost use mathlib.Core.Path.{_≡_};
 ghost use mathlib.Core.Logic.{_⊎_};
@@ -9,8 +12,10 @@ ghost use Prim.Native.Nat.{_<_, _≤_, _+_};
 ghost use lib.Dec.{ltb};
 ghost use lib.ListN.{length, take, drop};
 ghost use Rattle.words.specs.Order.{same, shared};
-ghost use Rattle.scan.specs.Agrees.{Agrees, Begun, Agreed};
-ghost use Rattle.scan.specs.Compared.{compared};
+ghost use Rattle.leaps.specs.Agrees.{Agrees, Begun, Agreed};
+ghost use Rattle.ranks.specs.Inner.{Ranks};
+ghost use Rattle.ranks.specs.Ranks.{ranked};
+ghost use Rattle.scan.specs.Compared.{compared, SharedTold};
 ghost use Rattle.scan.specs.Group.{NextGroup, GroupFrom};
 
 // The smaller of two lengths.
@@ -64,28 +69,34 @@ fn first_blocks(a: &[u8], b: &[u8], end: usize) -> usize
     if end < 32 {
         return 0;
     }
-    blocks::agree_blocks(&a[..end], 0, &b[..end], 0, end)
+    agree_blocks(&a[..end], 0, &b[..end], 0, end)
 }
 
-// Compares two strings: by blocks, then the bytes behind them.
-pub fn compare(a: &[u8], b: &[u8]) -> Compared
-    ensures { λ r. ⌜ r ≡ compared (now (a .entry)) (now (b .entry)) ⌝ }
+// The length of the common beginning of two strings: by blocks, then the bytes behind them.
+fn shared_bytes(a: &[u8], b: &[u8]) -> usize
+    ensures { λ r. ⌜ SharedTold (now (a .entry)) (now (b .entry)) r ⌝ }
 {
     let end = shorter(a.len(), b.len());
-    let mut k = first_blocks(a, b, end);
-    while k < end {
-        let left = a[k];
-        let right = b[k];
-        if left != right {
-            return Compared {
-                shared: k,
-                smaller: smaller_number(left as usize, right as usize),
-            };
-        }
-        k += 1;
+    let k = first_blocks(a, b, end);
+    agree_bytes(a, 0, b, 0, k, end)
+}
+
+// Compares two strings: the ranks of the first bytes that differ decide, or the lengths.
+pub fn compare(a: &[u8], b: &[u8], ranks: &[u8]) -> Compared
+    requires { ⌜ Ranks (now ranks) ⌝ }
+    ensures { λ r. ⌜ r ≡ compared (now (ranks .entry)) (now (a .entry)) (now (b .entry)) ⌝ }
+{
+    let k = shared_bytes(a, b);
+    if k < shorter(a.len(), b.len()) {
+        let x = rank_of(ranks, a[k]);
+        let y = rank_of(ranks, b[k]);
+        return Compared {
+            shared: k,
+            smaller: smaller_number(x, y),
+        };
     }
     Compared {
-        shared: end,
+        shared: k,
         smaller: smaller_number(a.len(), b.len()),
     }
 }
@@ -97,8 +108,7 @@ pub fn agree(a: &[u8], b: &[u8]) -> bool
     if a.len() != b.len() {
         return false;
     }
-    let c = compare(a, b);
-    c.smaller == 0
+    shared_bytes(a, b) == a.len()
 }
 
 // The shared length of two parts of a pattern, of m bytes from i on and of n bytes from j on.
@@ -108,8 +118,7 @@ pub fn shared_length(s: &[u8], i: usize, m: usize, j: usize, n: usize) -> usize
 {
     let end = i + m;
     let stop = j + n;
-    let c = compare(&s[i..end], &s[j..stop]);
-    c.shared
+    shared_bytes(&s[i..end], &s[j..stop])
 }
 
 // A stretch of equal neighbouring factors: the length of one, and how many there are.
@@ -119,9 +128,9 @@ pub struct Stretch {
 }
 
 // The group of factors that starts at i, where i is the start of a group.
-pub fn next_group(s: &[u8], i: usize) -> Stretch
-    requires { ⌜ i < length (now s) ⌝ }
-    ensures { λ r. ⌜ NextGroup (now (s .entry)) i (r .length) (r .power) ⌝ }
+pub fn next_group(s: &[u8], ranks: &[u8], i: usize) -> Stretch
+    requires { ⌜ Ranks (now ranks) × (i < length (now s)) ⌝ }
+    ensures { λ r. ⌜ NextGroup (ranked (now (ranks .entry)) (now (s .entry))) i (r .length) (r .power) ⌝ }
 {
     let n = s.len();
     let mut p = 1;
@@ -133,7 +142,7 @@ pub fn next_group(s: &[u8], i: usize) -> Stretch
             let x = s[j - p];
             let y = s[j];
             if x != y {
-                if y < x {
+                if below(ranks, y, x) {
                     return Stretch {
                         length: p,
                         power: (j - i) / p,
@@ -143,8 +152,8 @@ pub fn next_group(s: &[u8], i: usize) -> Stretch
             }
             j += 1;
         }
-        let m = blocks::leap(s, i, j, p);
-        gap = blocks::next_gap(gap, 64, j < m.j);
+        let m = leap(s, ranks, i, j, p);
+        gap = next_gap(gap, 64, j < m.j);
         p = m.p;
         j = m.j;
     }
@@ -155,11 +164,12 @@ pub fn next_group(s: &[u8], i: usize) -> Stretch
 }
 
 // The group that starts at a place; at the end of the pattern and behind it, where none does, zeros.
-pub fn group_from(s: &[u8], i: usize) -> Stretch
-    ensures { λ r. ⌜ GroupFrom (now (s .entry)) i (r .length) (r .power) ⌝ }
+pub fn group_from(s: &[u8], ranks: &[u8], i: usize) -> Stretch
+    requires { ⌜ Ranks (now ranks) ⌝ }
+    ensures { λ r. ⌜ GroupFrom (ranked (now (ranks .entry)) (now (s .entry))) i (r .length) (r .power) ⌝ }
 {
     if i < s.len() {
-        return next_group(s, i);
+        return next_group(s, ranks, i);
     }
     Stretch {
         length: 0,

@@ -89,31 +89,37 @@ module _ {s array : List ℕ} {from to : ℕ} {b t : List ℕ} (a : Accepted s a
           last = λ l. omega (arith, at, end-apart c (suc c) (factors t) (factors-falling t) (omega arith) (omega arith));
         }
 
-  module _ {c e : ℕ} (old : EndsBy (factors s) from c e) {v : Overview} (w : Surveyed t e from (from + length b) v) {n : ℕ} where
-    pub planned-old : c ≤ v .ends .count → n ≡ cond (ltb e (v .place)) (v .stored + 1) 0
+  -- the pass was made up to q, the end of the block
+  module _ {c e q : ℕ} (ends : q ≡ from + length b) (old : EndsBy (factors s) from c e) {v : Overview} (seen : Surveyed t e from q v) where
+    w : Surveyed t e from (from + length b) v
+    w = rw ends at seen
+
+    pub planned-old : {n : ℕ} → c ≤ v .ends .count → n ≡ cond (ltb e (v .place)) (v .stored + 1) 0
         → Planned s from to b t (record {
-          seams = record { kept = c; end = e; resume = to + (v .place - (from + length b)); place = v .place };
+          seams = record { kept = c; end = e; resume = to + (v .place - q); place = v .place };
           groups = n;
           found = v .found;
           run = v .run;
         })
-    planned-old h g =
-        record {
+    planned-old {n} h g =
+        rw ends
+        (record {
           seams = plan-old old (w .ends) (w .next) h;
           groups = g ∙ ap (λ k. cond (ltb e (v .place)) (k + 1) 0) (w .stored) ∙ groups-between t (kept-ends old (w .ends) (w .next) h) (w .next);
           longest = w .longest;
-        }
+        })
 
-    pub planned-new : v .ends .count < c → n ≡ cond (ltb (v .ends .end) (v .place)) (v .fresh + 1) 0
+    pub planned-new : {n : ℕ} → v .ends .count < c → n ≡ cond (ltb (v .ends .end) (v .place)) (v .fresh + 1) 0
         → Planned s from to b t (record {
-          seams = record { kept = v .ends .count; end = v .ends .end; resume = to + (v .place - (from + length b)); place = v .place };
+          seams = record { kept = v .ends .count; end = v .ends .end; resume = to + (v .place - q); place = v .place };
           groups = n;
           found = v .found;
           run = v .run;
         })
-    planned-new h g =
-        record {
+    planned-new {n} h g =
+        rw ends
+        (record {
           seams = plan-new old (w .ends) (w .next) h;
           groups = g ∙ ap (λ k. cond (ltb (v .ends .end) (v .place)) (k + 1) 0) (w .fresh) ∙ groups-between t (w .ends) (w .next);
           longest = w .longest;
-        }
+        })

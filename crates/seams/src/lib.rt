@@ -13,6 +13,8 @@ ghost use mathlib.Core.Path.{_≡_};
 ghost use Prim.Native.Nat.{_+_, _≤_, _<_};
 ghost use lib.Dec.{ltb};
 ghost use lib.ListN.{length};
+ghost use Rattle.ranks.specs.Inner.{Ranks};
+ghost use Rattle.ranks.specs.Ranks.{ranked};
 ghost use Rattle.seams.specs.Seams.{Accepted, Planned};
 ghost use Rattle.seams.specs.Survey.{Surveyed, insideOf};
 
@@ -42,9 +44,9 @@ struct Overview {
 }
 
 // The pass: `end` is where the stored factors before the edit end, q where the block does.
-fn survey(t: &[u8], end: usize, from: usize, q: usize) -> Overview
-    requires { ⌜ (q ≤ length (now t)) × (length (now t) ≤ 65535) ⌝ }
-    ensures { λ r. ⌜ Surveyed (now (t .entry)) end from q r ⌝ }
+fn survey(t: &[u8], ranks: &[u8], end: usize, from: usize, q: usize) -> Overview
+    requires { ⌜ Ranks (now ranks) × (q ≤ length (now t)) × (length (now t) ≤ 65535) ⌝ }
+    ensures { λ r. ⌜ Surveyed (ranked (now (ranks .entry)) (now (t .entry))) end from q r ⌝ }
 {
     let mut ends = Ends { count: 0, end: 0 };
     let mut place = 0;
@@ -58,7 +60,7 @@ fn survey(t: &[u8], end: usize, from: usize, q: usize) -> Overview
     let mut run = 0;
     let mut i = 0;
     while i < t.len() {
-        let g = next_group(t, i);
+        let g = next_group(t, ranks, i);
         let next = i + g.power * g.length;
         ends = ends_with(ends, from, i, g.length, g.power);
         place = start_with(place, q, i, g.length, g.power);
@@ -103,13 +105,21 @@ fn groups_between(end: usize, place: usize, inner: usize) -> usize
 }
 
 // Where the parts of the edited pattern t meet; for `edit`.
-pub fn plan(pattern: &[u8], table: &[u16], from: usize, to: usize, block: &[u8], t: &[u8]) -> Parts
-    requires { ⌜ Accepted (now pattern) (now table) from to (now block) (now t) ⌝ }
-    ensures { λ r. ⌜ Planned (now (pattern .entry)) from to (now (block .entry)) (now (t .entry)) r ⌝ }
+pub fn plan(
+    pattern: &[u8],
+    ranks: &[u8],
+    table: &[u16],
+    from: usize,
+    to: usize,
+    block: &[u8],
+    t: &[u8],
+) -> Parts
+    requires { ⌜ Ranks (now ranks) × Accepted (ranked (now ranks) (now pattern)) (now table) from to (ranked (now ranks) (now block)) (ranked (now ranks) (now t)) ⌝ }
+    ensures { λ r. ⌜ Planned (ranked (now (ranks .entry)) (now (pattern .entry))) from to (ranked (now (ranks .entry)) (now (block .entry))) (ranked (now (ranks .entry)) (now (t .entry))) r ⌝ }
 {
-    let stored = stored_ends(pattern, table, from);
+    let stored = stored_ends(pattern, ranks, table, from);
     let q = from + block.len();
-    let seen = survey(t, stored.end, from, q);
+    let seen = survey(t, ranks, stored.end, from, q);
     let ends = seen.ends;
     let found = seen.found;
     let run = seen.run;

@@ -1,5 +1,6 @@
-// A function for each public call: it prints the call and what is given, makes the call with a row of `room` entries, or a buffer of `room` bytes,
-// and prints the answer with what the call leaves there. A part of the row is `[0..n]`: of `[..n]` the search does not know the length.
+// A function for each public call but edits: it prints the call and what is given, makes the call with a row of `room` entries, or a buffer of
+// `room` bytes, and prints the answer with what the call leaves there. A part of the row is `[0..n]`: of `[..n]` the search does not know the
+// length.
 use refusals::Filled;
 use refusals::MAX_PATTERN;
 ghost use Prim.Native.Nat.{_≤_};
@@ -21,125 +22,129 @@ pub fn least(a: usize, b: usize) -> usize
     if a < b { a } else { b }
 }
 
-pub fn factor(pattern: &[u8], room: usize) {
-    crate::text(b"factor");
-    crate::word(pattern);
+// The call, the string that it is made on and the order.
+fn given(name: &[u8], s: &[u8], order: &[u8]) {
+    crate::text(name);
+    crate::word(s);
+    crate::order(order);
+}
+
+pub fn factor(pattern: &[u8], order: &[u8], room: usize) {
+    given(b"factor", pattern, order);
     let mut space = [OLD; SPACE];
     let n = least(room, SPACE);
     let row = &mut space[0..n];
-    let a = lyndon::factor(pattern, row);
+    let a = lyndon::factor(pattern, order, row);
     crate::filled(a, row);
 }
 
-pub fn lyndon_array(pattern: &[u8], room: usize) {
-    crate::text(b"lyndon_array");
-    crate::word(pattern);
+pub fn lyndon_array(pattern: &[u8], order: &[u8], room: usize) {
+    given(b"lyndon_array", pattern, order);
     let mut space = [OLD; SPACE];
     let n = least(room, SPACE);
     let row = &mut space[0..n];
-    let a = lyndon::lyndon_array(pattern, row);
+    let a = lyndon::lyndon_array(pattern, order, row);
     crate::filled(a, row);
 }
 
-pub fn last_factors(pattern: &[u8], room: usize) {
-    crate::text(b"last_factors");
-    crate::word(pattern);
+pub fn last_factors(pattern: &[u8], order: &[u8], room: usize) {
+    given(b"last_factors", pattern, order);
     let mut space = [OLD; SPACE];
     let n = least(room, SPACE);
     let row = &mut space[0..n];
-    let a = lyndon::last_factors(pattern, row);
+    let a = lyndon::last_factors(pattern, order, row);
     crate::filled(a, row);
 }
 
-pub fn realise_array(wanted: &[u16], room: usize) {
+pub fn realise_array(wanted: &[u16], order: &[u8], room: usize) {
     crate::text(b"realise_array");
     crate::row(b"wanted", wanted);
+    crate::order(order);
     let mut space = [BLANK; BUFFER];
     let n = least(room, BUFFER);
     let buffer = &mut space[0..n];
-    let a = lyndon::realise_array(wanted, buffer);
-    realised(a, buffer);
+    let a = lyndon::realise_array(wanted, order, buffer);
+    realised(a, order, buffer);
 }
 
-// The pattern in the buffer is left free, so its Lyndon array is printed for it, and then the bytes behind it.
-fn realised(a: Filled, buffer: &[u8]) {
+// The pattern in the buffer is left free, so its Lyndon array under the order is printed for it, and then the bytes behind it.
+fn realised(a: Filled, order: &[u8], buffer: &[u8]) {
     let count = least(a.count, buffer.len());
     let mut space = [OLD; SPACE];
     let n = least(count, SPACE);
     let array = &mut space[0..n];
-    lyndon::lyndon_array(&buffer[0..count], array);
+    lyndon::lyndon_array(&buffer[0..count], order, array);
     crate::realised(a, array, &buffer[count..]);
 }
 
-pub fn longest_words(pattern: &[u8], room: usize) {
-    crate::text(b"longest_words");
-    crate::word(pattern);
+pub fn longest_words(pattern: &[u8], order: &[u8], room: usize) {
+    given(b"longest_words", pattern, order);
     let mut space = [OLD; SPACE];
     let n = least(room, SPACE);
     let row = &mut space[0..n];
-    let a = lyndon_words::longest_words(pattern, row);
+    let a = lyndon_words::longest_words(pattern, order, row);
     crate::starts(a, row);
 }
 
-pub fn longest_word(pattern: &[u8]) {
-    crate::text(b"longest_word");
-    crate::word(pattern);
+pub fn longest_word(pattern: &[u8], order: &[u8]) {
+    given(b"longest_word", pattern, order);
     crate::text(b": part");
-    crate::word(lyndon_words::longest_word(pattern));
+    crate::word(lyndon_words::longest_word(pattern, order));
     crate::text(b"\n");
 }
 
-pub fn is_lyndon(word: &[u8]) {
-    crate::text(b"is_lyndon");
-    crate::word(word);
-    crate::verdict(lyndon_words::is_lyndon(word));
+pub fn longest_word_place(pattern: &[u8], order: &[u8]) {
+    given(b"longest_word_place", pattern, order);
+    crate::place(lyndon_words::longest_word_place(pattern, order));
 }
 
-pub fn compare(first: &[u8], second: &[u8]) {
+pub fn is_lyndon(word: &[u8], order: &[u8]) {
+    given(b"is_lyndon", word, order);
+    crate::verdict(lyndon_words::is_lyndon(word, order));
+}
+
+pub fn compare(first: &[u8], second: &[u8], order: &[u8]) {
     crate::text(b"compare");
     crate::word(first);
     crate::text(b" with");
     crate::word(second);
-    crate::compared(lyndon_compare::compare(first, second));
+    crate::order(order);
+    crate::compared(lyndon_compare::compare(first, second, order));
 }
 
-pub fn least_rotation(pattern: &[u8]) {
-    crate::text(b"least_rotation");
-    crate::word(pattern);
-    crate::position(lyndon_words::least_rotation(pattern));
+pub fn least_rotation(pattern: &[u8], order: &[u8]) {
+    given(b"least_rotation", pattern, order);
+    crate::position(lyndon_words::least_rotation(pattern, order));
 }
 
-pub fn lyndon_tree(word: &[u8], room: usize) {
-    crate::text(b"lyndon_tree");
-    crate::word(word);
+pub fn lyndon_tree(word: &[u8], order: &[u8], room: usize) {
+    given(b"lyndon_tree", word, order);
     let mut space = [OLD; SPACE];
     let n = least(room, SPACE);
     let row = &mut space[0..n];
-    let a = lyndon_words::lyndon_tree(word, row);
+    let a = lyndon_words::lyndon_tree(word, order, row);
     crate::filled(a, row);
 }
 
-pub fn factor_prefix(pattern: &[u8], table: &[u16], end: usize, room: usize) {
-    crate::text(b"factor_prefix");
-    crate::word(pattern);
+pub fn factor_prefix(pattern: &[u8], order: &[u8], table: &[u16], end: usize, room: usize) {
+    given(b"factor_prefix", pattern, order);
     crate::row(b"table", table);
     crate::number(b"end", end as u64);
     let mut space = [OLD; SPACE];
     let n = least(room, SPACE);
     let row = &mut space[0..n];
-    let a = lyndon_parts::factor_prefix(pattern, table, end, row);
+    let a = lyndon_parts::factor_prefix(pattern, order, table, end, row);
     crate::filled(a, row);
 }
 
-pub fn factor_suffix(pattern: &[u8], table: &[u16], start: usize, room: usize) {
-    crate::text(b"factor_suffix");
-    crate::word(pattern);
+pub fn factor_suffix(pattern: &[u8], order: &[u8], table: &[u16], start: usize, room: usize) {
+    given(b"factor_suffix", pattern, order);
     crate::row(b"table", table);
     crate::number(b"start", start as u64);
     let mut space = [OLD; SPACE];
     let n = least(room, SPACE);
     let row = &mut space[0..n];
-    let a = lyndon_parts::factor_suffix(pattern, table, start, row);
+    let a = lyndon_parts::factor_suffix(pattern, order, table, start, row);
     crate::filled(a, row);
 }
 
@@ -156,5 +161,23 @@ pub fn write_block(pattern: &[u8], room: usize) {
     let n = least(room, BUFFER);
     let buffer = &mut space[0..n];
     let a = block::write_block(pattern, buffer);
+    crate::buffer(a, buffer);
+}
+
+pub fn write_listing(pattern: &[u8], order: &[u8], room: usize) {
+    given(b"write_listing", pattern, order);
+    let mut space = [BLANK; BUFFER];
+    let n = least(room, BUFFER);
+    let buffer = &mut space[0..n];
+    let a = lyndon_text::write_listing(pattern, order, buffer);
+    crate::buffer(a, buffer);
+}
+
+pub fn byte_order(room: usize) {
+    crate::text(b"byte_order");
+    let mut space = [BLANK; BUFFER];
+    let n = least(room, BUFFER);
+    let buffer = &mut space[0..n];
+    let a = lyndon::byte_order(buffer);
     crate::buffer(a, buffer);
 }

@@ -1,6 +1,8 @@
 // Prints to standard output: headings, words, rows, and the answers of the calls, each number after its name. What prints returns nothing, so
-// there is nothing for an `ensures` to speak of. The calls themselves are made in `calls.rt`; which cases are run is left to the programs.
+// there is nothing for an `ensures` to speak of. The calls themselves are made in `calls.rt` and `edits.rt`; which cases are run is left to the
+// programs.
 pub mod calls;
+pub mod edits;
 
 ghost use mathlib.Core.Path.{_≡_};
 ghost use Prim.Native.Nat.{_<_};
@@ -11,6 +13,8 @@ use lyndon_compare::Comparison;
 use lyndon_words::Position;
 use lyndon_words::Starts;
 use lyndon_words::Verdict;
+use lyndon_words::WordPlace;
+use ranks::test_order;
 use refusals::Filled;
 
 // A word or a row of up to so many elements is printed whole.
@@ -114,6 +118,15 @@ pub fn content(s: &[u8]) {
     }
 }
 
+// The order of a call. Byte order goes without saying: `test_order` answers that none of its ranks are used.
+pub fn order(ranks: &[u8]) {
+    let t = test_order(ranks);
+    if !t.order || t.used != 0 {
+        text(b" order");
+        content(ranks);
+    }
+}
+
 // A row after its name: `empty`, its entries, or how many there are and their digest.
 pub fn row(name: &[u8], r: &[u16]) {
     text(b" ");
@@ -173,6 +186,13 @@ pub fn starts(a: Starts, r: &[u16]) {
     number(b"length", a.length as u64);
     number(b"count", a.count as u64);
     row(b"row", r);
+    text(b"\n");
+}
+
+pub fn place(a: WordPlace) {
+    text(b":");
+    number(b"start", a.start as u64);
+    number(b"length", a.length as u64);
     text(b"\n");
 }
 

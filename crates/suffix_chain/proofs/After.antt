@@ -13,18 +13,35 @@ use Rattle.words.proofs.Order.{same-true, false-same}
 use Rattle.words.proofs.Groups.{groups-repeat}
 use Rattle.words.proofs.Stored.{stored-long, stored-entry}
 use Rattle.words.proofs.Tables.{longest-at-some, longest-at-fits, chain-suffix, lyndon-array-length}
+use Rattle.ranks.specs.Inner.{Ranks}
+use Rattle.ranks.specs.Ranks.{Bytes, ranked}
+use Rattle.ranks.proofs.Ranked.{length-ranked, ranked-part, bytes-take, bytes-drop}
+use Rattle.ranks.proofs.Shared.{same-ranked}
 use Rattle.scan.specs.Group.{NextGroup}
 
 -- a row whose first entries are the Lyndon array
-module _ (s row : List ℕ) (h : take (length s) row ≡ lyndonArray s) where
-  pub array-room : length s ≤ length row
-  array-room = stored-long (length s) row (lyndonArray s) (lyndon-array-length s) h
+module _ (o s row : List ℕ) (h : take (length s) row ≡ lyndonArray (ranked o s)) where
+  long : length (ranked o s) ≡ length s
+  long = length-ranked o s
 
-  pub array-entry : (i : ℕ) → i < length s → getD row i 0 ≡ longestAt s i
-  array-entry = stored-entry s row h
+  pub array-room : length s ≤ length row
+  array-room = stored-long (length s) row (lyndonArray (ranked o s)) (lyndon-array-length (ranked o s) ∙ long) h
+
+  pub array-entry : (i : ℕ) → i < length s → getD row i 0 ≡ longestAt (ranked o s) i
+  array-entry i l = stored-entry (ranked o s) row (rw long h) i (rw long l)
 
   pub array-fits : (i : ℕ) → i < length s → i + getD row i 0 ≤ length s
-  array-fits i l = rw (array-entry i l) (longest-at-fits s i l)
+  array-fits i l = omega (arith, array-entry i l, longest-at-fits (ranked o s) i (rw long l), long)
+
+-- two words are the same where their ranks are
+pub same-words : {o : List ℕ} → Ranks o → (s : List ℕ) → Bytes s → (i j size : ℕ)
+    → same (take (i + size - i) (drop i s)) (take (j + size - j) (drop j s)) ≡ same (take (i + size - i) (drop i (ranked o s))) (take (j + size - j) (drop j (ranked o s)))
+same-words {o} v s b i j size =
+    let m = i + size - i in
+    let n = j + size - j in
+    let p = bytes-take m (drop i s) (bytes-drop i s b) in
+    let q = bytes-take n (drop j s) (bytes-drop j s b) in
+    sym (rw (ranked-part o m i s, ranked-part o n j s) at (same-ranked v (take m (drop i s)) (take n (drop j s)) p q))
 
 -- from i on stand `power` equal factors of length `size`, up to j
 pub record Equal (s : List ℕ) (i size power j : ℕ) : Type 0 where

@@ -7,6 +7,8 @@ use native.Mathlib.Nat.{mul-le-mul-right}
 use native.Mathlib.Omega.{arith}
 use lib.ListN.{length, drop, replicate, length-append, length-drop, length-replicate}
 use Rattle.hex.specs.Hex.{pairOf}
+use Rattle.ranks.specs.Ranks.{ranked}
+use Rattle.ranks.proofs.Ranked.{length-ranked}
 use Rattle.words.specs.Factors.{join, factors, Group, wordOf}
 use Rattle.words.specs.Tables.{suffixGroups}
 use Rattle.words.proofs.Bounded.{le-or-lt}
@@ -67,31 +69,35 @@ line-most i l e word column h k m w c = go (le-or-lt l 1)
     go (inl one) = omega (arith, parts, count-least l 0 (omega arith), count-least column 0 (omega arith))
     go (inr two) = omega (arith, parts, count-least l 4 (omega arith), count-least column 4 (omega arith))
 
-packed-bound : (t : List ℕ) {i : ℕ} {fs : List (List ℕ)} {gs : List Group} → Packed i fs gs → Falling fs → drop i t ≡ join fs
-    → length fs ≤ 65535 → i + length (join fs) ≤ 65535 → length (lines t gs) ≤ 20 * length (join fs)
-packed-bound t none a j h l = omega arith
-packed-bound t {i} (more e f fs {gs} n h p) a j k l =
-    let g = group i (length f) e in
-    let m = length-joined e f fs in
-    let one : 1 ≤ e = omega arith in
-    let fits : length f ≤ e * length f = omega (arith, mul-le-mul-right (length f) one) in
-    let all : length (replicate e f ++ fs) ≡ e + length fs = length-append (replicate e f) fs ∙ ap (λ u. u + length fs) (length-replicate e f) in
-    let here : Standing t (g ∷ gs) = record { place = i; words = replicate e f ++ fs; packing = more e f fs n h p; falling = a; stand = j } in
-    let (short, size) = first-column t g gs here in
-    omega (
-      arith,
-      m,
-      packed-bound t p (falling-right (replicate e f) fs a) (behind-stand t i e f fs j) (omega arith) (omega arith),
-      length-append (line i (length f) e (wordOf t g) (sharedColumn t g gs)) (lines t gs),
-      line-most i (length f) e (wordOf t g) (sharedColumn t g gs) (omega arith) (omega arith) (omega arith) size short,
-    )
+-- the groups are of the ranks, under any order
+module _ (o s : List ℕ) where
+  packed-bound : {i : ℕ} {fs : List (List ℕ)} {gs : List Group} → Packed i fs gs → Falling fs → drop i (ranked o s) ≡ join fs
+      → length fs ≤ 65535 → i + length (join fs) ≤ 65535 → length (lines s gs) ≤ 20 * length (join fs)
+  packed-bound none a j h l = omega arith
+  packed-bound {i} (more e f fs {gs} n h p) a j k l =
+      let g = group i (length f) e in
+      let m = length-joined e f fs in
+      let one : 1 ≤ e = omega arith in
+      let fits : length f ≤ e * length f = omega (arith, mul-le-mul-right (length f) one) in
+      let all : length (replicate e f ++ fs) ≡ e + length fs = length-append (replicate e f) fs ∙ ap (λ u. u + length fs) (length-replicate e f) in
+      let here : Standing (ranked o s) (g ∷ gs) =
+      record { place = i; words = replicate e f ++ fs; packing = more e f fs n h p; falling = a; stand = j } in
+      let (short, size) = first-column o s g gs here in
+      omega (
+        arith,
+        m,
+        packed-bound p (falling-right (replicate e f) fs a) (behind-stand (ranked o s) i e f fs j) (omega arith) (omega arith),
+        length-append (line i (length f) e (wordOf s g) (sharedColumn s g gs)) (lines s gs),
+        line-most i (length f) e (wordOf s g) (sharedColumn s g gs) (omega arith) (omega arith) (omega arith) size short,
+      )
 
--- the lines of a pattern whose places are 16-bit numbers
-pub suffix-most : (s : List ℕ) (i : ℕ) → i ≤ length s → length s ≤ 65535 → length (lines s (suffixGroups s i)) ≤ 20 * length s
-unfolding suffixGroups
-suffix-most s i h l =
-    let rest = drop i s in
-    let few = factors-few rest in
-    let n : length (join (factors rest)) ≡ length s - i = ap length (join-factors rest) ∙ length-drop i s in
-    let bound = packed-bound s (packed i (factors rest)) (factors-falling rest) (sym (join-factors rest)) (omega (arith, few, length-drop i s)) (omega (arith, n)) in
-    omega (arith, bound, n)
+  -- the lines of a pattern whose places are 16-bit numbers
+  pub suffix-most : (i : ℕ) → i ≤ length s → length s ≤ 65535 → length (lines s (suffixGroups (ranked o s) i)) ≤ 20 * length s
+  unfolding suffixGroups
+  suffix-most i h l =
+      let rest = drop i (ranked o s) in
+      let few = factors-few rest in
+      let size : length rest ≡ length s - i = length-drop i (ranked o s) ∙ ap (λ n. n - i) (length-ranked o s) in
+      let n : length (join (factors rest)) ≡ length s - i = ap length (join-factors rest) ∙ size in
+      let bound = packed-bound (packed i (factors rest)) (factors-falling rest) (sym (join-factors rest)) (omega (arith, few, size)) (omega (arith, n)) in
+      omega (arith, bound, n)

@@ -3,6 +3,7 @@ use mathlib.Core.List.{List, [], _∷_, _++_}
 use mathlib.Core.Path.{_≡_}
 use Prim.Native.Nat.{ℕ, zero, suc}
 use lib.ListN.{length}
+use Rattle.ranks.specs.Ranks.{ranked}
 use Rattle.rows.specs.Row.{written}
 use Rattle.words.specs.Order.{shared}
 use Rattle.words.specs.Factors.{Group, wordOf}
@@ -42,6 +43,10 @@ lines t (g ∷ gs) = line (g .start) (g .size) (g .power) (wordOf t g) (sharedCo
 -- The listing of a pattern: the header, then a line per group.
 unfoldable pub listingText : List ℕ → List ℕ
 listingText s = header ++ lines s (groups s)
+
+-- The same under an order: the groups are those of the ranks, words and shared lengths are of the bytes.
+unfoldable pub listingBy : List ℕ → List ℕ → List ℕ
+listingBy order s = header ++ lines s (groups (ranked order s))
 
 -- The edited listing: that of the whole edited pattern, so that equal words across the seams of an edit are one group.
 abbrev pub editedText : List ℕ → ℕ → ℕ → List ℕ → List ℕ

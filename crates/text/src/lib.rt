@@ -11,9 +11,11 @@ use scan::shared_length;
 ghost use mathlib.Core.Path.{_≡_};
 ghost use Prim.Native.Nat.{_<_, _≤_};
 ghost use lib.ListN.{length};
+ghost use Rattle.ranks.specs.Inner.{Ranks};
+ghost use Rattle.ranks.specs.Ranks.{ranked};
 ghost use Rattle.words.specs.Tables.{suffixGroups};
 ghost use Rattle.text.specs.Hexadecimal.{hexadecimal};
-ghost use Rattle.text.specs.Listing.{header, field, lastField, line, lines, listingText, refusalText};
+ghost use Rattle.text.specs.Listing.{header, field, lastField, line, lines, listingBy, refusalText};
 ghost use Rattle.rows.specs.Written.{Room, Puts};
 
 // The first line of every listing.
@@ -96,17 +98,17 @@ fn line_length(start: usize, power: usize, word: &[u8], shared: usize) -> usize
 
 // Writes the lines of a pattern's groups from a place on. Each group is found once: the first here, every other as the next one, for its word,
 // and then carried over.
-fn write_lines(s: &[u8], from: usize, buffer: &mut [u8], at: usize) -> usize
-    requires { ⌜ (from ≤ length (now s)) × Room (lines (now s) (suffixGroups (now s) from)) at (now buffer) ⌝ }
-    ensures { λ r. ⌜ Puts (lines (now (s .entry)) (suffixGroups (now (s .entry)) from)) at (now (buffer .entry)) (now (buffer .exit)) r ⌝ }
+fn write_lines(s: &[u8], ranks: &[u8], from: usize, buffer: &mut [u8], at: usize) -> usize
+    requires { ⌜ Ranks (now ranks) × (from ≤ length (now s)) × Room (lines (now s) (suffixGroups (ranked (now ranks) (now s)) from)) at (now buffer) ⌝ }
+    ensures { λ r. ⌜ Puts (lines (now (s .entry)) (suffixGroups (ranked (now (ranks .entry)) (now (s .entry))) from)) at (now (buffer .entry)) (now (buffer .exit)) r ⌝ }
 {
     let mut next = at;
     let mut start = from;
-    let mut g = group_from(s, from);
+    let mut g = group_from(s, ranks, from);
     while start < s.len() {
         let end = start + g.length;
         let place = start + g.power * g.length;
-        let h = group_from(s, place);
+        let h = group_from(s, ranks, place);
         let shared = shared_length(s, start, g.length, place, h.length);
         next = write_line(start, g.power, &s[start..end], shared, buffer, next);
         start = place;
@@ -116,17 +118,17 @@ fn write_lines(s: &[u8], from: usize, buffer: &mut [u8], at: usize) -> usize
 }
 
 // The length of these lines.
-fn lines_length(s: &[u8], from: usize) -> usize
-    requires { ⌜ (length (now s) ≤ 65535) × (from ≤ length (now s)) ⌝ }
-    ensures { λ r. ⌜ r ≡ length (lines (now (s .entry)) (suffixGroups (now (s .entry)) from)) ⌝ }
+fn lines_length(s: &[u8], ranks: &[u8], from: usize) -> usize
+    requires { ⌜ Ranks (now ranks) × (length (now s) ≤ 65535) × (from ≤ length (now s)) ⌝ }
+    ensures { λ r. ⌜ r ≡ length (lines (now (s .entry)) (suffixGroups (ranked (now (ranks .entry)) (now (s .entry))) from)) ⌝ }
 {
     let mut total = 0;
     let mut i = from;
-    let mut g = group_from(s, from);
+    let mut g = group_from(s, ranks, from);
     while i < s.len() {
         let end = i + g.length;
         let place = i + g.power * g.length;
-        let h = group_from(s, place);
+        let h = group_from(s, ranks, place);
         let shared = shared_length(s, i, g.length, place, h.length);
         total += line_length(i, g.power, &s[i..end], shared);
         i = place;
@@ -144,20 +146,20 @@ fn write_header(buffer: &mut [u8]) -> usize
 }
 
 // The length of a pattern's listing.
-pub fn listing_length(s: &[u8]) -> usize
-    requires { ⌜ length (now s) ≤ 65535 ⌝ }
-    ensures { λ r. ⌜ r ≡ length (listingText (now (s .entry))) ⌝ }
+pub fn listing_length(s: &[u8], ranks: &[u8]) -> usize
+    requires { ⌜ Ranks (now ranks) × (length (now s) ≤ 65535) ⌝ }
+    ensures { λ r. ⌜ r ≡ length (listingBy (now (ranks .entry)) (now (s .entry))) ⌝ }
 {
-    HEADER.len() + lines_length(s, 0)
+    HEADER.len() + lines_length(s, ranks, 0)
 }
 
 // Writes a pattern's listing to the front of the buffer, and answers its length.
-pub fn write_text(s: &[u8], buffer: &mut [u8]) -> usize
-    requires { ⌜ Room (listingText (now s)) 0 (now buffer) ⌝ }
-    ensures { λ r. ⌜ Puts (listingText (now (s .entry))) 0 (now (buffer .entry)) (now (buffer .exit)) r ⌝ }
+pub fn write_text(s: &[u8], ranks: &[u8], buffer: &mut [u8]) -> usize
+    requires { ⌜ Ranks (now ranks) × Room (listingBy (now ranks) (now s)) 0 (now buffer) ⌝ }
+    ensures { λ r. ⌜ Puts (listingBy (now (ranks .entry)) (now (s .entry))) 0 (now (buffer .entry)) (now (buffer .exit)) r ⌝ }
 {
     let at = write_header(buffer);
-    write_lines(s, 0, buffer, at)
+    write_lines(s, ranks, 0, buffer, at)
 }
 
 // Writes all that is printed for a refusal to the front of the buffer.

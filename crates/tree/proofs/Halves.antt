@@ -8,6 +8,8 @@ use lib.Seq.{take-take, drop-drop, length-take-le}
 use Rattle.words.specs.Factors.{factors}
 use Rattle.words.specs.Tables.{LyndonAt, lastLength}
 use Rattle.words.specs.Tree.{Node, split, treeNodes, nodeNumbers}
+use Rattle.ranks.specs.Ranks.{ranked}
+use Rattle.ranks.proofs.Ranked.{length-ranked, ranked-part}
 use Rattle.words.proofs.Below.{drop-take}
 use Rattle.words.proofs.Tree.{split-some, split-below, split-last, split-left, split-right, tree-node}
 
@@ -26,6 +28,9 @@ pub record Halves (word : List ℕ) (i n r : ℕ) : Type 0 where
 pub part-length : {word : List ℕ} {n i : ℕ} → LyndonAt word n i → length (take n (drop i word)) ≡ n
 part-length {word} {n} {i} h = length-take-le n (drop i word) (omega (arith, h .fits, length-drop i word))
 
+pub part-inside : (o word : List ℕ) {n i : ℕ} → LyndonAt (ranked o word) n i → i + n ≤ length word
+part-inside o word h = omega (arith, h .fits, length-ranked o word)
+
 numbers-append : (ms ns : List Node) → nodeNumbers (ms ++ ns) ≡ nodeNumbers ms ++ nodeNumbers ns
 numbers-append [] ns = refl
 numbers-append (m ∷ ms) ns = ap {B = List ℕ} (λ t. m .start ∷ m .size ∷ t) (numbers-append ms ns)
@@ -35,7 +40,7 @@ part-suffix : (word : List ℕ) (i n m k : ℕ) → m + k ≡ n → i + n ≤ le
 part-suffix word i n m k e h =
     drop-take (drop i word) m k n e (omega (arith, length-drop i word)) ∙ ap (take k) (drop-drop m i word)
 
-pub halves : {word : List ℕ} {i n : ℕ} → LyndonAt word n i → 1 < n
+halves : {word : List ℕ} {i n : ℕ} → LyndonAt word n i → 1 < n
     → (r : ℕ) → r ≡ lastLength (factors (take (i + n - (i + 1)) (drop (i + 1) word))) → Halves word i n r
 halves {word} {i} {n} h l r e =
     record {
@@ -75,3 +80,8 @@ halves {word} {i} {n} h l r e =
 
     back : drop (split w) w ≡ take r (drop (i + split w) word)
     back = part-suffix word i n (split w) r (last ∙ size) (h .fits)
+
+-- the same, where the last factor is that of the ranks of the part
+pub part-halves : (o word : List ℕ) {i n : ℕ} → LyndonAt (ranked o word) n i → 1 < n
+    → (r : ℕ) → r ≡ lastLength (factors (ranked o (take (i + n - (i + 1)) (drop (i + 1) word)))) → Halves (ranked o word) i n r
+part-halves o word {i} {n} h l r e = halves h l r (e ∙ ap (λ t. lastLength (factors t)) (ranked-part o (i + n - (i + 1)) (i + 1) word))

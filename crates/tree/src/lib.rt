@@ -4,15 +4,24 @@ use factoring::last_factor;
 ghost use mathlib.Core.Path.{_≡_};
 ghost use Prim.Native.Nat.{_+_, _*_, _≤_};
 ghost use lib.ListN.{length, take, drop};
+ghost use Rattle.ranks.specs.Inner.{Ranks};
+ghost use Rattle.ranks.specs.Ranks.{ranked};
 ghost use Rattle.rows.specs.Row.{writtenAt};
 ghost use Rattle.words.specs.Tables.{LyndonAt};
 ghost use Rattle.words.specs.Tree.{treeNodes, nodeNumbers};
 
 // Writes the nodes of the part of this start and length from place `at` of the row on, and answers the place after them.
-pub fn write_nodes(word: &[u8], start: usize, size: usize, row: &mut [u16], at: usize) -> usize
-    requires { ⌜ LyndonAt (now word) size start × (length (now word) ≤ 65535) × (at + 4 * size ≤ length (now row) + 2) ⌝ }
+pub fn write_nodes(
+    word: &[u8],
+    ranks: &[u8],
+    start: usize,
+    size: usize,
+    row: &mut [u16],
+    at: usize,
+) -> usize
+    requires { ⌜ Ranks (now ranks) × LyndonAt (ranked (now ranks) (now word)) size start × (length (now word) ≤ 65535) × (at + 4 * size ≤ length (now row) + 2) ⌝ }
     ensures { λ r. ⌜ (r + 2 ≡ at + 4 * size)
-        × (now (row .exit) ≡ writtenAt at (nodeNumbers (treeNodes start (take size (drop start (now (word .entry)))))) (now (row .entry))) ⌝ }
+        × (now (row .exit) ≡ writtenAt at (nodeNumbers (treeNodes start (take size (drop start (ranked (now (ranks .entry)) (now (word .entry))))))) (now (row .entry))) ⌝ }
 {
     row[at] = start as u16;
     row[at + 1] = size as u16;
@@ -21,8 +30,8 @@ pub fn write_nodes(word: &[u8], start: usize, size: usize, row: &mut [u16], at: 
     }
     let a = start + 1;
     let b = start + size;
-    let right = last_factor(&word[a..b]);
+    let right = last_factor(&word[a..b], ranks);
     let left = size - right;
-    let next = write_nodes(word, start, left, row, at + 2);
-    write_nodes(word, start + left, right, row, next)
+    let next = write_nodes(word, ranks, start, left, row, at + 2);
+    write_nodes(word, ranks, start + left, right, row, next)
 }

@@ -1,7 +1,12 @@
--- `edited_text::write_edited` meets its contract: the row holds the edited pattern in its front, and the listing of that is written.
+-- `edited_text::write_edited` meets its contract: the row holds the edited pattern in its front, and the listing of that is written, which no ranks give.
+use mathlib.Core.List.{[]}
+use mathlib.Core.Path.{refl}
 use native.Mathlib.Omega.{arith}
 use Rattle.cuts.proofs.Spliced.{spliced-within, spliced-long, spliced-edited}
+use Rattle.ranks.proofs.Ranked.{no-ranks}
+use Rattle.text.proofs.Lines.{listing-none}
 use Rattle.words.proofs.Edit.{length-edited}
+use Rattle.words.specs.Edit.{edited}
 use borrow.Author.Needs.{needs}
 use Rattle.edited_text.proofs.write_edited.Statement.{statement}
 use Rattle.edited_text.proofs.write_edited.Tie as tie
@@ -40,23 +45,26 @@ slice-aggregate-write-text c =
     let a = f .args in
     spliced-long (a .pattern .now) (a .from) (a .to) (a .block .now) (f .pre .0) (f .pre .1) _ (c .before .before .splice .ensures)
 
+slice-aggregate-write-text-2 : tie.Need-slice-aggregate-write-text-2
+slice-aggregate-write-text-2 c = search needs
+
 write-text-requires : tie.Need-write-text-requires
 write-text-requires c κs =
-    let f = c .before .before .before .before .before .before .before .before in
+    let f = c .before .before .before .before .before .before .before .before .before in
     let a = f .args in
-    let e = spliced-edited (a .pattern .now) (a .from) (a .to) (a .block .now) (f .pre .0) (f .pre .1) _ (c .before .before .before .splice .ensures) in
-    rw e (f .pre .3)
+    let e = spliced-edited (a .pattern .now) (a .from) (a .to) (a .block .now) (f .pre .0) (f .pre .1) _ (c .before .before .before .before .splice .ensures) in
+    (no-ranks, rw (e, listing-none [] (edited (a .pattern .now) (a .from) (a .to) (a .block .now)) refl) (f .pre .3))
 
 same-length : tie.Need-same-length
 same-length c = search needs
 
 returns : tie.Need-returns
 returns c =
-    let f = c .before .before .before .before .before .before .before .before .before .before .before in
+    let f = c .before .before .before .before .before .before .before .before .before .before .before .before in
     let a = f .args in
-    let split = c .before .before .before .before .before .before in
+    let split = c .before .before .before .before .before .before .before in
     let e = spliced-edited (a .pattern .now) (a .from) (a .to) (a .block .now) (f .pre .0) (f .pre .1) _ (split .splice .ensures) in
-    rw e at (c .before .before .write-text .ensures)
+    rw (e, listing-none [] (edited (a .pattern .now) (a .from) (a .to) (a .block .now)) refl) at (c .before .before .write-text .ensures)
 
 pub write-edited-spec : {M : Type 1} → statement M
 write-edited-spec =
@@ -69,6 +77,7 @@ write-edited-spec =
     add-m-2
     array-share-prefix-t
     slice-aggregate-write-text
+    slice-aggregate-write-text-2
     write-text-requires
     same-length
     returns)

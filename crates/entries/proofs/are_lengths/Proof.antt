@@ -4,7 +4,7 @@ use mathlib.Core.Path.{_≡_, refl}
 use Prim.Native.Nat.{_+_, _-_, _≤_}
 use Rattle.words.proofs.Bounded.{true-false}
 use Rattle.rows.proofs.Fill.{Right, right-none}
-use Rattle.entries.proofs.Block.{block-test}
+use Rattle.rows.proofs.Block.{block-test}
 use borrow.Author.Needs.{needs}
 use native.Mathlib.Omega.{arith}
 use Rattle.entries.proofs.are_lengths.Statement.{statement}

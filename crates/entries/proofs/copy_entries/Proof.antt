@@ -3,9 +3,10 @@ use mathlib.Core.Path.{_≡_, refl, _∙_}
 use Prim.Native.Nat.{_+_, _-_, _≤_}
 use lib.ListN.{length, getD, length-set}
 use Rattle.rows.proofs.Fill.{Filled}
-use Rattle.scan.specs.Agrees.{Agrees}
-use Rattle.scan.proofs.Alike.{agrees-none}
-use Rattle.entries.proofs.Block.{block-none, block-one, put-one, put-back}
+use Rattle.leaps.specs.Agrees.{Agrees}
+use Rattle.leaps.proofs.Alike.{agrees-none}
+use Rattle.rows.proofs.Block.{block-none, block-one}
+use Rattle.entries.proofs.Block.{put-one, put-back}
 use borrow.Author.Needs.{needs}
 use native.Mathlib.Omega.{arith}
 use Rattle.entries.proofs.copy_entries.Statement.{statement}

@@ -2,7 +2,7 @@
 use mathlib.Core.Path.{_≡_}
 use Prim.Native.Nat.{_+_, _-_, _≤_}
 use Rattle.rows.proofs.Fill.{Filled}
-use Rattle.entries.proofs.Block.{block-none, block-one}
+use Rattle.rows.proofs.Block.{block-none, block-one}
 use borrow.Author.Needs.{needs}
 use native.Mathlib.Omega.{arith}
 use Rattle.entries.proofs.write_lengths.Statement.{statement}

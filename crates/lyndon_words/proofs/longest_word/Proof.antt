@@ -14,7 +14,8 @@ longest-word-place-requires c κs = search needs
 add-end : tie.Need-add-end
 add-end c =
     let w = c .before .longest-word-place in
-    omega (arith, place-within (c .before .before .before .args .pattern .now) (w .result .start) (w .result .length) (w .ensures))
+    let a = c .before .before .before .before .args in
+    omega (arith, place-within (a .pattern .now) (a .order .now) (w .result .start) (w .result .length) (w .ensures))
 
 sub-result : tie.Need-sub-result
 sub-result c = search needs
@@ -25,13 +26,14 @@ part-result-start c = search needs
 part-result-end : tie.Need-part-result-end
 part-result-end c =
     let w = c .before .longest-word-place in
-    omega (arith, place-within (c .before .before .before .args .pattern .now) (w .result .start) (w .result .length) (w .ensures))
+    let a = c .before .before .before .before .args in
+    omega (arith, place-within (a .pattern .now) (a .order .now) (w .result .start) (w .result .length) (w .ensures))
 
 returns : tie.Need-returns
 returns c =
     let w = c .before .before .longest-word-place in
-    let p = c .before .before .before .before .args .pattern in
-    word-cut (p .now) (w .result .start) (w .result .length) (w .ensures) (p .ptr)
+    let a = c .before .before .before .before .before .args in
+    word-cut (a .pattern .now) (a .order .now) (w .result .start) (w .result .length) (w .ensures) (a .pattern .ptr)
 
 pub longest-word-spec : {M : Type 1} → statement M
 longest-word-spec =

@@ -1,8 +1,9 @@
 -- `memo::keep` meets its contract: the slot that is written is true, and the others are as they were.
 use lib.ListN.{length-set}
+use Rattle.ranks.proofs.Ranked.{length-ranked}
 use Rattle.memo.proofs.Slots.{memo-kept}
-use Prim.Native.Nat.{_+_, _-_, _≤_, _<_}
 use borrow.Author.Needs.{needs}
+use native.Mathlib.Omega.{arith}
 use Rattle.memo.proofs.keep.Statement.{statement}
 use Rattle.memo.proofs.keep.Tie as tie
 use Rattle.memo.proofs.keep.Reads as reads
@@ -28,7 +29,9 @@ slice-write-memo : tie.Need-slice-write-memo
 slice-write-memo c = search needs
 
 cast-memo-2 : tie.Need-cast-memo-2
-cast-memo-2 c = search needs
+cast-memo-2 c =
+    let a = c .before .before .before .before .before .before in
+    omega (arith, a .pre .2 .ends .inside, a .pre .2 .steps .inside, length-ranked (a .args .ranks .now) (a .args .s .now))
 
 add-memo : tie.Need-add-memo
 add-memo c = search needs
@@ -40,7 +43,9 @@ slice-write-memo-2 : tie.Need-slice-write-memo-2
 slice-write-memo-2 c = simp length-set (search needs)
 
 cast-memo-3 : tie.Need-cast-memo-3
-cast-memo-3 c = search needs
+cast-memo-3 c =
+    let a = c .before .before .before .before .before .before in
+    omega (arith, a .pre .2 .ends .inside, a .pre .2 .steps .inside, length-ranked (a .args .ranks .now) (a .args .s .now))
 
 add-memo-2 : tie.Need-add-memo-2
 add-memo-2 c = search needs
@@ -52,7 +57,9 @@ slice-write-memo-3 : tie.Need-slice-write-memo-3
 slice-write-memo-3 c = simp length-set (search needs)
 
 cast-memo-4 : tie.Need-cast-memo-4
-cast-memo-4 c = search needs
+cast-memo-4 c =
+    let a = c .before .before .before .before .before .before in
+    omega (arith, a .pre .2 .ends .inside, a .pre .2 .steps .inside, length-ranked (a .args .ranks .now) (a .args .s .now))
 
 add-memo-3 : tie.Need-add-memo-3
 add-memo-3 c = search needs
@@ -68,7 +75,7 @@ same-length c = search needs
 
 returns-2 : tie.Need-returns-2
 returns-2 c =
-    let a = c .before .before .before .before .before in
+    let a = c .before .before .before .before .before .before in
     memo-kept (a .pre .0) (c .slot-for .result) (a .args .i) (a .args .e) (a .args .d) (a .args .run) (c .slot-for .ensures) (a .pre .2)
 
 returns-3 : tie.Need-returns-3

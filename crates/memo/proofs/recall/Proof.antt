@@ -1,6 +1,7 @@
 -- `memo::recall` meets its contract: what the slot of the place says, if there is one, and a run goes on.
+use Rattle.ranks.proofs.Ranked.{length-ranked}
 use Rattle.memo.proofs.Slots.{knows-none, knows-slot, knows-run}
-use Prim.Native.Nat.{_+_, _*_, _-_, _≤_, _<_}
+use Prim.Native.Nat.{_+_, _*_}
 use borrow.Author.Needs.{needs}
 use native.Mathlib.Omega.{arith}
 use Rattle.memo.proofs.recall.Statement.{statement}
@@ -12,8 +13,9 @@ use Rattle.memo.proofs.slot_of.Reads as slot-of-reads
 
 returns : tie.Need-returns
 returns c =
-    let a = c .before .before .before .before in
-    knows-none (a .args .i) (a .args .d) (a .pre .1) (a .pre .2)
+    let a = c .before .before .before .before .before in
+    let e = length-ranked (a .args .ranks .now) (a .args .s .now) in
+    knows-none (a .args .i) (a .args .d) (rw e (a .pre .1)) (a .pre .2)
 
 add-slot-of : tie.Need-add-slot-of
 add-slot-of c = search needs
@@ -23,8 +25,9 @@ slot-of-requires c κs = search needs
 
 returns-2 : tie.Need-returns-2
 returns-2 c =
-    let a = c .before .before .before .before .before in
-    knows-none (a .args .i) (a .args .d) (a .pre .1) (a .pre .2)
+    let a = c .before .before .before .before .before .before in
+    let e = length-ranked (a .args .ranks .now) (a .args .s .now) in
+    knows-none (a .args .i) (a .args .d) (rw e (a .pre .1)) (a .pre .2)
 
 mul-entry : tie.Need-mul-entry
 mul-entry c = search needs
@@ -53,30 +56,33 @@ add-entry-3 c = search needs
 entry-requires-3 : tie.Need-entry-requires-3
 entry-requires-3 c κs = search needs
 
-add-t17 : tie.Need-add-t17
-add-t17 c =
+add-t18 : tie.Need-add-t18
+add-t18 c =
     let t = c .before .before .before .before .before .before in
-    omega (arith, t .before .before .shared-slice-known2 .given (4 * t .slot-of .result + 3), c .entry3 .ensures)
+    omega (arith, t .before .before .shared-slice-known3 .given (4 * t .slot-of .result + 3), c .entry3 .ensures)
 
 returns-3 : tie.Need-returns-3
 returns-3 c =
-    let a = c .before .before .before .before .before .before .before .before .before .before in
+    let a = c .before .before .before .before .before .before .before .before .before .before .before in
+    let e = length-ranked (a .args .ranks .now) (a .args .s .now) in
     let t = c .before .before .before .before .before .before in
-    knows-run (a .args .i) (a .args .d) (a .pre .1) (a .pre .2) (a .pre .0) (t .slot-of .result) (omega arith) (t .slot-of .ensures (omega arith))
+    knows-run (a .args .i) (a .args .d) (rw e (a .pre .1)) (a .pre .2) (a .pre .0) (t .slot-of .result) (omega arith) (t .slot-of .ensures (omega arith))
     (search needs) (search needs) (c .entry3 .ensures) (c .before .before .before .before .entry .ensures)
 
 returns-4 : tie.Need-returns-4
 returns-4 c =
-    let a = c .before .before .before .before .before .before .before .before .before in
+    let a = c .before .before .before .before .before .before .before .before .before .before in
+    let e = length-ranked (a .args .ranks .now) (a .args .s .now) in
     let t = c .before .before .before .before .before in
-    knows-slot (a .args .i) (a .args .d) (a .pre .1) (a .pre .2) (a .pre .0) (t .slot-of .result) (omega arith) (t .slot-of .ensures (omega arith))
+    knows-slot (a .args .i) (a .args .d) (rw e (a .pre .1)) (a .pre .2) (a .pre .0) (t .slot-of .result) (omega arith) (t .slot-of .ensures (omega arith))
     (c .before .before .before .entry .ensures)
 
 returns-5 : tie.Need-returns-5
 returns-5 c =
-    let a = c .before .before .before .before .before .before .before in
+    let a = c .before .before .before .before .before .before .before .before in
+    let e = length-ranked (a .args .ranks .now) (a .args .s .now) in
     let t = c .before .before .before in
-    knows-slot (a .args .i) (a .args .d) (a .pre .1) (a .pre .2) (a .pre .0) (t .slot-of .result) (omega arith) (t .slot-of .ensures (omega arith))
+    knows-slot (a .args .i) (a .args .d) (rw e (a .pre .1)) (a .pre .2) (a .pre .0) (t .slot-of .result) (omega arith) (t .slot-of .ensures (omega arith))
     (c .before .entry .ensures)
 
 pub recall-spec : {M : Type 1} → statement M
@@ -96,7 +102,7 @@ recall-spec =
     mul-entry-3
     add-entry-3
     entry-requires-3
-    add-t17
+    add-t18
     returns-3
     returns-4
     returns-5)

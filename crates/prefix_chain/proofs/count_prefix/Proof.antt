@@ -3,6 +3,7 @@ use mathlib.Core.Path.{_≡_, ap}
 use Prim.Native.Nat.{_+_, _≤_}
 use lib.ListN.{length}
 use Rattle.words.specs.Tables.{prefixGroups}
+use Rattle.ranks.specs.Ranks.{ranked}
 use Rattle.scan.proofs.Pass.{stretches}
 use Rattle.prefix_chain.proofs.TurnBack.{prefix-none, count-turn}
 use borrow.Author.Needs.{needs}
@@ -14,10 +15,11 @@ use Rattle.prefix_chain.proofs.count_prefix.Lts as lts
 use Rattle.prefix_chain.proofs.group_before.Reads as group-before-reads
 
 abbrev Inv-loop : tie.InvT-loop
-Inv-loop s table end count₀ rest₀ count rest = (count + rest ≤ end) × (count + length (prefixGroups s rest) ≡ length (prefixGroups s end))
+Inv-loop s ranks table end count₀ rest₀ count rest =
+    (count + rest ≤ end) × (count + length (prefixGroups (ranked ranks s) rest) ≡ length (prefixGroups (ranked ranks s) end))
 
 abbrev μ-loop : tie.MeasureT-loop
-μ-loop s table end count₀ rest₀ count rest = rest
+μ-loop s ranks table end count₀ rest₀ count rest = rest
 
 loop-holds : tie.Need-loop-holds Inv-loop μ-loop
 loop-holds c = search needs
@@ -49,8 +51,8 @@ loop-again c =
 
 returns : tie.Need-returns Inv-loop μ-loop
 returns c =
-    let f = c .before .before .before .before in
-    omega (arith, ap length (prefix-none (f .args .s .now) (c .before .loop .rest) (search needs)))
+    let f = c .before .before .before .before .before in
+    omega (arith, ap length (prefix-none (ranked (f .args .ranks .now) (f .args .s .now)) (c .before .loop .rest) (search needs)))
 
 pub count-prefix-spec : {M : Type 1} → statement M
 count-prefix-spec =

@@ -3,6 +3,7 @@ use Prim.Native.Nat.{_≤_}
 use lib.ListN.{length-set}
 use Rattle.words.specs.Factors.{groupNumbers}
 use Rattle.words.specs.Tables.{prefixGroups}
+use Rattle.ranks.specs.Ranks.{ranked}
 use Rattle.rows.proofs.Back.{Back, back-length}
 use Rattle.scan.proofs.Pass.{stretches}
 use Rattle.prefix_chain.proofs.TurnBack.{write-start, write-room, write-turn, write-end}
@@ -15,18 +16,19 @@ use Rattle.prefix_chain.proofs.write_prefix.Lts as lts
 use Rattle.prefix_chain.proofs.group_before.Reads as group-before-reads
 
 abbrev Inv-loop : tie.InvT-loop
-Inv-loop s table end count row₀ at₀ q₀ row at q = (q ≤ end) × Back (groupNumbers (prefixGroups s end)) row₀ row at (groupNumbers (prefixGroups s q))
+Inv-loop s ranks table end count row₀ at₀ q₀ row at q =
+    (q ≤ end) × Back (groupNumbers (prefixGroups (ranked ranks s) end)) row₀ row at (groupNumbers (prefixGroups (ranked ranks s) q))
 
 abbrev μ-loop : tie.MeasureT-loop
-μ-loop s table end count row₀ at₀ q₀ row at q = q
+μ-loop s ranks table end count row₀ at₀ q₀ row at q = q
 
 mul-at : tie.Need-mul-at Inv-loop μ-loop
 mul-at c = search needs
 
 loop-holds : tie.Need-loop-holds Inv-loop μ-loop
 loop-holds c =
-    let f = c .before .before .before in
-    (search needs, write-start (f .args .s .now) (f .args .row .now) (f .args .end) (f .args .count) (search needs) (search needs))
+    let f = c .before .before .before .before in
+    (search needs, write-start (ranked (f .args .ranks .now) (f .args .s .now)) (f .args .row .now) (f .args .end) (f .args .count) (search needs) (search needs))
 
 group-before-requires : tie.Need-group-before-requires Inv-loop μ-loop
 group-before-requires c κs = search needs
@@ -48,7 +50,8 @@ cast-row c = search needs
 mul-row : tie.Need-mul-row Inv-loop μ-loop
 mul-row c =
     let b = c .before in
-    omega (arith, write-room (b .group-before .ensures) (b .before .before .loop .inv .1))
+    let l = b .before .before in
+    omega (arith, write-room (b .group-before .ensures) (l .loop .inv .1), l .before .before .before .before .before .good .1 .1 .1 .1 .1)
 
 slice-write-row : tie.Need-slice-write-row Inv-loop μ-loop
 slice-write-row c =
@@ -63,12 +66,14 @@ cast-row-2 c =
 add-row : tie.Need-add-row Inv-loop μ-loop
 add-row c =
     let b = c .before .before in
-    omega (arith, write-room (b .group-before .ensures) (b .before .before .loop .inv .1))
+    let l = b .before .before in
+    omega (arith, write-room (b .group-before .ensures) (l .loop .inv .1), l .before .before .before .before .before .good .1 .1 .1 .1 .1)
 
 mul-row-2 : tie.Need-mul-row-2 Inv-loop μ-loop
 mul-row-2 c =
     let b = c .before .before in
-    omega (arith, write-room (b .group-before .ensures) (b .before .before .loop .inv .1))
+    let l = b .before .before in
+    omega (arith, write-room (b .group-before .ensures) (l .loop .inv .1), l .before .before .before .before .before .good .1 .1 .1 .1 .1)
 
 slice-write-row-2 : tie.Need-slice-write-row-2 Inv-loop μ-loop
 slice-write-row-2 c =
@@ -83,12 +88,14 @@ cast-row-3 c =
 add-row-2 : tie.Need-add-row-2 Inv-loop μ-loop
 add-row-2 c =
     let b = c .before .before .before in
-    omega (arith, write-room (b .group-before .ensures) (b .before .before .loop .inv .1))
+    let l = b .before .before in
+    omega (arith, write-room (b .group-before .ensures) (l .loop .inv .1), l .before .before .before .before .before .good .1 .1 .1 .1 .1)
 
 mul-row-3 : tie.Need-mul-row-3 Inv-loop μ-loop
 mul-row-3 c =
     let b = c .before .before .before in
-    omega (arith, write-room (b .group-before .ensures) (b .before .before .loop .inv .1))
+    let l = b .before .before in
+    omega (arith, write-room (b .group-before .ensures) (l .loop .inv .1), l .before .before .before .before .before .good .1 .1 .1 .1 .1)
 
 slice-write-row-3 : tie.Need-slice-write-row-3 Inv-loop μ-loop
 slice-write-row-3 c =
@@ -110,8 +117,8 @@ same-length c = back-length (c .before .loop .inv .1)
 
 returns : tie.Need-returns Inv-loop μ-loop
 returns c =
-    let f = c .before .before .before .before .before in
-    write-end (f .args .s .now) (c .before .loop .q) (search needs) (c .before .loop .inv .1)
+    let f = c .before .before .before .before .before .before in
+    write-end (ranked (f .args .ranks .now) (f .args .s .now)) (c .before .loop .q) (search needs) (c .before .loop .inv .1)
 
 pub write-prefix-spec : {M : Type 1} → statement M
 write-prefix-spec =

@@ -1,5 +1,6 @@
 -- `reach_table::is_lyndon_array` meets its contract: what is left is tested with the memo.
 use mathlib.Core.Path.{_≡_}
+use Rattle.ranks.proofs.Ranked.{length-ranked}
 use Rattle.rows.proofs.Fill.{tested-all, tested-wrong}
 use Rattle.reach_table.proofs.Reach.{lyndon-table}
 use borrow.Author.Needs.{needs}
@@ -15,22 +16,26 @@ test-plain-requires c κs = search needs
 
 returns : tie.Need-returns
 returns c =
-    let a = c .before .before .before .before in
+    let a = c .before .before .before .before .before in
     let t = c .before .test-plain in
     let w = t .ensures .differs (c .if1 .taken) in
-    tested-wrong (lyndon-table (a .args .s .now)) (a .args .table .now) (a .pre) (t .result .left) (w .0) (w .1)
+    let e = length-ranked (a .args .ranks .now) (a .args .s .now) in
+    tested-wrong (lyndon-table (a .args .ranks .now) (a .args .s .now)) (a .args .table .now) (a .pre .1) (t .result .left) (rw e at (w .0)) (w .1)
 
 returns-2 : tie.Need-returns-2
 returns-2 c =
-    let a = c .before .before .before .before .before .before in
+    let a = c .before .before .before .before .before .before .before in
     let t = c .before .before .before .test-plain in
     let e : t .result .left ≡ 0 = c .if2 .taken in
-    tested-all (lyndon-table (a .args .s .now)) (a .args .table .now) (a .pre) (rw e at (t .ensures .right (c .before .before .if1 .left) .right))
+    let f = length-ranked (a .args .ranks .now) (a .args .s .now) in
+    tested-all (lyndon-table (a .args .ranks .now) (a .args .s .now)) (a .args .table .now) (a .pre .1) (rw (e, f) at (t .ensures .right (c .before .before .if1 .left) .right))
 
 test-rest-requires : tie.Need-test-rest-requires
 test-rest-requires c κs =
+    let a = c .before .before .before .before .before .before .before in
     let t = c .before .before .before .test-plain in
-    (t .ensures .within, t .ensures .right (c .before .before .if1 .left))
+    let e = length-ranked (a .args .ranks .now) (a .args .s .now) in
+    (a .pre .0, rw e at (t .ensures .within), t .ensures .right (c .before .before .if1 .left))
 
 returns-3 : tie.Need-returns-3
 returns-3 c = search needs

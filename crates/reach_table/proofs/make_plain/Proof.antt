@@ -1,7 +1,10 @@
 -- `reach_table::make_plain` meets its contract: the entries from `made` on are made.
+use mathlib.Core.Path.{_≡_}
 use lib.ListN.{length, length-set}
 use Rattle.words.specs.Tables.{longestAt}
 use Rattle.words.proofs.Tables.{longest-at-fits}
+use Rattle.ranks.specs.Ranks.{ranked}
+use Rattle.ranks.proofs.Ranked.{length-ranked}
 use Rattle.rows.proofs.Fill.{Filled, filled-none, filled-down}
 use Prim.Native.Nat.{_-_, _≤_}
 use borrow.Author.Needs.{needs}
@@ -14,18 +17,21 @@ use Rattle.reach_table.proofs.allowance.Reads as allowance-reads
 use Rattle.reach_table.proofs.merge_at.Reads as merge-at-reads
 
 abbrev Inv-loop : tie.InvT-loop
-Inv-loop s table₀ made₀ budget₀ table made budget = (made ≤ length s) × Filled (longestAt s) (length s) table₀ table made (length s)
+Inv-loop s ranks table₀ made₀ budget₀ table made budget =
+    (made ≤ length s) × Filled (longestAt (ranked ranks s)) (length s) table₀ table made (length s) × (length (ranked ranks s) ≡ length s)
 
 abbrev μ-loop : tie.MeasureT-loop
-μ-loop s table₀ made₀ budget₀ table made budget = made
+μ-loop s ranks table₀ made₀ budget₀ table made budget = made
 
 allowance-requires : tie.Need-allowance-requires Inv-loop μ-loop
 allowance-requires c κs = search needs
 
 loop-holds : tie.Need-loop-holds Inv-loop μ-loop
 loop-holds c =
-    let a = c .before .before .before in
-    (omega arith, filled-none (longestAt (a .args .s .now)) (length (a .args .s .now)) (a .args .table .now) (length (a .args .s .now)))
+    let a = c .before .before .before .before in
+    let o = a .args .ranks .now in
+    let s = a .args .s .now in
+    (omega arith, filled-none (longestAt (ranked o s)) (length s) (a .args .table .now) (length s), length-ranked o s)
 
 sub-made : tie.Need-sub-made Inv-loop μ-loop
 sub-made c = search needs
@@ -33,13 +39,14 @@ sub-made c = search needs
 merge-at-requires : tie.Need-merge-at-requires Inv-loop μ-loop
 merge-at-requires c κs =
     let l = c .before .before in
-    (omega arith, record { room = omega (arith, l .loop .inv .1 .size); right = λ k a b. l .loop .inv .1 .inside k (omega arith) b })
+    let a = l .before .before .before .before .before in
+    (a .pre .0, omega arith, record { room = omega (arith, l .loop .inv .1 .size); right = λ k b d. l .loop .inv .1 .inside k (omega arith) (omega arith) })
 
 cast-table : tie.Need-cast-table Inv-loop μ-loop
 cast-table c =
     let l = c .before .before .before .before in
-    let a = l .before .before .before .before in
-    omega (arith, c .before .merge-at .ensures, longest-at-fits (a .args .s .now) (l .loop .made - 1) (omega arith))
+    let a = l .before .before .before .before .before in
+    omega (arith, c .before .merge-at .ensures, longest-at-fits (ranked (a .args .ranks .now) (a .args .s .now)) (l .loop .made - 1) (omega arith))
 
 mul-table : tie.Need-mul-table Inv-loop μ-loop
 mul-table c = search needs
@@ -62,14 +69,17 @@ loop-less c = search needs
 loop-again : tie.Need-loop-again Inv-loop μ-loop
 loop-again c =
     let l = c .before .before .before .before .before in
-    let r = c .before .before .merge-at in
-    (omega arith, filled-down (l .loop .inv .1) (omega arith) (l .loop .made - 1) (r .result .length) (r .ensures) (omega arith) (omega arith))
+    let r = c .before .before .merge-at in (
+      omega arith,
+      filled-down (l .loop .inv .1) (omega arith) (l .loop .made - 1) (r .result .length) (r .ensures) (omega arith) (omega arith),
+      l .loop .inv .2,
+    )
 
 same-length-2 : tie.Need-same-length-2 Inv-loop μ-loop
 same-length-2 c = c .before .loop .inv .1 .size
 
 returns-2 : tie.Need-returns-2 Inv-loop μ-loop
-returns-2 c = c .before .loop .inv
+returns-2 c = (c .before .loop .inv .0, c .before .loop .inv .1)
 
 pub make-plain-spec : {M : Type 1} → statement M
 make-plain-spec =

@@ -1,4 +1,5 @@
 -- `reach_table::make_rest` meets its contract: the memo begins as zeros.
+use Rattle.ranks.specs.Ranks.{ranked}
 use Rattle.memo.proofs.Slots.{memo-start}
 use borrow.Author.Needs.{needs}
 use Rattle.reach_table.proofs.make_rest.Statement.{statement}
@@ -12,8 +13,8 @@ slice-aggregate-make-by c = search needs
 
 make-by-requires : tie.Need-make-by-requires
 make-by-requires c κs =
-    let a = c .before .before .before .before in
-    (a .pre .0, a .pre .1, a .pre .2, memo-start (a .args .s .now))
+    let a = c .before .before .before .before .before in
+    (a .pre .0, a .pre .1, a .pre .2, a .pre .3, memo-start (ranked (a .args .ranks .now) (a .args .s .now)))
 
 same-length : tie.Need-same-length
 same-length c = search needs

@@ -1,10 +1,12 @@
 -- `reach_table::test_plain` meets its contract: the entries from `tested` on are right.
-use mathlib.Core.Path.{refl}
+use mathlib.Core.Path.{_≡_, refl}
 use lib.ListN.{length}
 use Rattle.words.specs.Tables.{longestAt}
 use Rattle.words.proofs.Bounded.{true-false}
+use Rattle.ranks.specs.Ranks.{ranked}
+use Rattle.ranks.proofs.Ranked.{length-ranked}
 use Rattle.rows.proofs.Fill.{Right, right-none, right-one, right-join}
-use Prim.Native.Nat.{_+_, _-_, _≤_, _<_}
+use Prim.Native.Nat.{_-_, _≤_}
 use borrow.Author.Needs.{needs}
 use native.Mathlib.Omega.{arith}
 use Rattle.reach_table.proofs.test_plain.Statement.{statement}
@@ -16,18 +18,20 @@ use Rattle.reach_table.proofs.allowance.Reads as allowance-reads
 use Rattle.reach_table.proofs.merge_at.Reads as merge-at-reads
 
 abbrev Inv-loop : tie.InvT-loop
-Inv-loop s table tested₀ budget₀ tested budget = (tested ≤ length s) × Right (longestAt s) table tested (length s)
+Inv-loop s ranks table tested₀ budget₀ tested budget = (tested ≤ length s) × Right (longestAt (ranked ranks s)) table tested (length s) × (length (ranked ranks s) ≡ length s)
 
 abbrev μ-loop : tie.MeasureT-loop
-μ-loop s table tested₀ budget₀ tested budget = tested
+μ-loop s ranks table tested₀ budget₀ tested budget = tested
 
 allowance-requires : tie.Need-allowance-requires Inv-loop μ-loop
 allowance-requires c κs = search needs
 
 loop-holds : tie.Need-loop-holds Inv-loop μ-loop
 loop-holds c =
-    let a = c .before .before .before in
-    (omega arith, right-none (longestAt (a .args .s .now)) (a .args .table .now) (length (a .args .s .now)))
+    let a = c .before .before .before .before in
+    let o = a .args .ranks .now in
+    let s = a .args .s .now in
+    (omega arith, right-none (longestAt (ranked o s)) (a .args .table .now) (length s), length-ranked o s)
 
 sub-tested : tie.Need-sub-tested Inv-loop μ-loop
 sub-tested c = search needs
@@ -35,7 +39,8 @@ sub-tested c = search needs
 merge-at-requires : tie.Need-merge-at-requires Inv-loop μ-loop
 merge-at-requires c κs =
     let l = c .before in
-    (omega arith, record { room = omega arith; right = λ k a b. l .loop .inv .1 k (omega arith) b })
+    let a = l .before .before .before .before .before in
+    (a .pre .0, omega arith, record { room = omega arith; right = λ k b d. l .loop .inv .1 k (omega arith) (omega arith) })
 
 entry-requires : tie.Need-entry-requires Inv-loop μ-loop
 entry-requires c κs = search needs
@@ -52,14 +57,16 @@ returns c =
 returns-2 : tie.Need-returns-2 Inv-loop μ-loop
 returns-2 c =
     let l = c .before .before .before .before .before .before .before in
-    let a = l .before .before .before .before in
+    let a = l .before .before .before .before .before in
     let r = c .before .before .before .before .before .merge-at in
     let i = l .loop .tested in
-    let s = a .args .s .now in
+    let s = ranked (a .args .ranks .now) (a .args .s .now) in
+    let n = length (a .args .s .now) in
     let table = a .args .table .now in
     let one = right-one (longestAt s) table (i - 1) i (omega arith) (omega (arith, r .ensures, c .before .before .before .entry .ensures, c .before .if1 .left)) in
-    let right = right-join (longestAt s) table (i - 1) i (length s) one (l .loop .inv .1) in
-    record { within = omega arith; right = λ q. record { room = a .pre; right = right }; differs = λ q. absurd (true-false q refl) }
+    let right = right-join (longestAt s) table (i - 1) i n one (l .loop .inv .1) in
+    let e = l .loop .inv .2 in
+    record { within = omega arith; right = λ q. record { room = omega arith; right = rw e right }; differs = λ q. absurd (true-false q refl) }
 
 loop-less : tie.Need-loop-less Inv-loop μ-loop
 loop-less c = search needs
@@ -67,19 +74,21 @@ loop-less c = search needs
 loop-again : tie.Need-loop-again Inv-loop μ-loop
 loop-again c =
     let l = c .before .before .before .before .before .before .before in
-    let a = l .before .before .before .before in
+    let a = l .before .before .before .before .before in
     let r = c .before .before .before .before .before .merge-at in
     let i = l .loop .tested in
-    let s = a .args .s .now in
+    let s = ranked (a .args .ranks .now) (a .args .s .now) in
+    let n = length (a .args .s .now) in
     let table = a .args .table .now in
     let one = right-one (longestAt s) table (i - 1) i (omega arith) (omega (arith, r .ensures, c .before .before .before .entry .ensures, c .before .if1 .left)) in
-    let right = right-join (longestAt s) table (i - 1) i (length s) one (l .loop .inv .1) in
-    (omega arith, right)
+    let right = right-join (longestAt s) table (i - 1) i n one (l .loop .inv .1) in
+    (omega arith, right, l .loop .inv .2)
 
 returns-3 : tie.Need-returns-3 Inv-loop μ-loop
 returns-3 c =
     let l = c .before in
-    record { within = omega arith; right = λ q. record { room = l .before .before .before .before .pre; right = l .loop .inv .1 }; differs = λ q. absurd (true-false q refl) }
+    let e = l .loop .inv .2 in
+    record { within = omega arith; right = λ q. record { room = omega arith; right = rw e (l .loop .inv .1) }; differs = λ q. absurd (true-false q refl) }
 
 pub test-plain-spec : {M : Type 1} → statement M
 test-plain-spec =

@@ -1,4 +1,5 @@
 -- `reach_table::test_rest` meets its contract: the memo begins as zeros.
+use Rattle.ranks.specs.Ranks.{ranked}
 use Rattle.memo.proofs.Slots.{memo-start}
 use borrow.Author.Needs.{needs}
 use Rattle.reach_table.proofs.test_rest.Statement.{statement}
@@ -12,8 +13,8 @@ slice-aggregate-test-by c = search needs
 
 test-by-requires : tie.Need-test-by-requires
 test-by-requires c κs =
-    let a = c .before .before .before in
-    (a .pre .0, a .pre .1, memo-start (a .args .s .now))
+    let a = c .before .before .before .before in
+    (a .pre .0, a .pre .1, a .pre .2, memo-start (ranked (a .args .ranks .now) (a .args .s .now)))
 
 returns : tie.Need-returns
 returns c = search needs

@@ -1,6 +1,9 @@
 -- `rotation::least_start` meets its contract: the pass is at the least start or before it.
+use mathlib.Core.Path.{_≡_}
 use Prim.Native.Nat.{_-_, _≤_}
 use lib.ListN.{length}
+use Rattle.ranks.specs.Ranks.{ranked}
+use Rattle.ranks.proofs.Ranked.{length-ranked}
 use Rattle.words.specs.Rotation.{leastRotation}
 use Rattle.scan.proofs.Next.{group-long}
 use Rattle.rotation.proofs.Start.{start-next, start-found, start-tells, start-none, none-tells}
@@ -14,13 +17,15 @@ use Rattle.rotation.proofs.compare_round.Reads as compare-round-reads
 use Rattle.scan.proofs.next_group.Reads as next-group-reads
 
 abbrev Inv-loop : tie.InvT-loop
-Inv-loop s n i₀ i = i ≤ leastRotation s
+Inv-loop s ranks n i₀ i = (i ≤ leastRotation (ranked ranks s)) × (length (ranked ranks s) ≡ length s)
 
 abbrev μ-loop : tie.MeasureT-loop
-μ-loop s n i₀ i = length s - i
+μ-loop s ranks n i₀ i = length s - i
 
 loop-holds : tie.Need-loop-holds Inv-loop μ-loop
-loop-holds c = search needs
+loop-holds c =
+    let a = c .before .before .args in
+    (search needs, length-ranked (a .ranks .now) (a .s .now))
 
 next-group-requires : tie.Need-next-group-requires Inv-loop μ-loop
 next-group-requires c κs = search needs
@@ -42,9 +47,10 @@ returns c =
     let v = c .before .before .before .before in
     let g = v .before in
     let l = g .before .before in
-    let s = l .before .before .args .s .now in (
-      start-found s _ (g .next-group .ensures) (l .loop .inv) _ (v .compare-round .ensures) (search needs),
-      start-tells s _ (g .next-group .ensures) (l .loop .inv) _ (v .compare-round .ensures) (search needs),
+    let a = l .before .before .before .args in
+    let s = ranked (a .ranks .now) (a .s .now) in (
+      start-found s _ (g .next-group .ensures) (l .loop .inv .0) _ (v .compare-round .ensures) (search needs),
+      rw (l .loop .inv .1) at (start-tells s _ (g .next-group .ensures) (l .loop .inv .0) _ (v .compare-round .ensures) (search needs)),
     )
 
 loop-less : tie.Need-loop-less Inv-loop μ-loop
@@ -55,13 +61,16 @@ loop-again c =
     let v = c .before .before in
     let g = v .before in
     let l = g .before .before in
-    start-next (l .before .before .args .s .now) _ (g .next-group .ensures) (l .loop .inv) _ (v .compare-round .ensures) (search needs)
+    let a = l .before .before .before .args in
+    let s = ranked (a .ranks .now) (a .s .now) in
+    (start-next s _ (g .next-group .ensures) (l .loop .inv .0) _ (v .compare-round .ensures) (search needs), l .loop .inv .1)
 
 returns-2 : tie.Need-returns-2 Inv-loop μ-loop
 returns-2 c =
     let l = c .before in
-    let s = l .before .before .args .s .now in
-    (start-none s (l .loop .i) (search needs) (l .loop .inv), none-tells s (l .loop .i) (search needs) (l .loop .inv))
+    let a = l .before .before .before .args in
+    let s = ranked (a .ranks .now) (a .s .now) in
+    (start-none s (l .loop .i) (search needs) (l .loop .inv .0), none-tells s (l .loop .i) (search needs) (l .loop .inv .0))
 
 pub least-start-spec : {M : Type 1} → statement M
 least-start-spec =

@@ -1,101 +1,73 @@
--- `scan::compare` meets its contract: before place k the strings agree, and where it stops an end or two symbols decide.
-use mathlib.Core.Path.{_≡_}
-use Prim.Native.Nat.{_≤_, _-_}
+-- `scan::compare` meets its contract: where the common beginning ends, an end or two ranks decide.
+use mathlib.Core.Logic.{_⊎_, inl, inr, ⊎-elim}
+use Prim.Native.Nat.{_≤_}
+use lib.ListN.{length}
 use native.Mathlib.Omega.{arith}
+use Rattle.scan.proofs.Decided.{compared-ends, compared-differ}
 use borrow.Author.Needs.{needs}
-use lib.ListN.{length, take}
-use Rattle.scan.proofs.Alike.{agrees-take}
-use Rattle.scan.proofs.Decided.{compared-ends, compared-differ, agree-on}
 use Rattle.scan.proofs.compare.Statement.{statement}
 use Rattle.scan.proofs.compare.Tie as tie
 use Rattle.scan.proofs.compare.Reads as reads
 use Rattle.scan.proofs.compare.Lts as lts
+use Rattle.ranks.proofs.rank_of.Reads as rank-of-reads
+use Rattle.scan.proofs.shared_bytes.Reads as shared-bytes-reads
 use Rattle.scan.proofs.shorter.Reads as shorter-reads
-use Rattle.scan.proofs.first_blocks.Reads as first-blocks-reads
 use Rattle.scan.proofs.smaller_number.Reads as smaller-number-reads
 
-abbrev Inv-loop : tie.InvT-loop
-Inv-loop a b end k₀ k = (k ≤ end) × (end ≤ length a) × (end ≤ length b) × (take k a ≡ take k b)
+shared-bytes-requires : tie.Need-shared-bytes-requires
+shared-bytes-requires c κs = search needs
 
-abbrev μ-loop : tie.MeasureT-loop
-μ-loop a b end k₀ k = end - k
-
-shorter-requires : tie.Need-shorter-requires Inv-loop μ-loop
+shorter-requires : tie.Need-shorter-requires
 shorter-requires c κs = search needs
 
-first-blocks-requires : tie.Need-first-blocks-requires Inv-loop μ-loop
-first-blocks-requires c κs = search needs
+shared-slice-read-rank-of : tie.Need-shared-slice-read-rank-of
+shared-slice-read-rank-of c = search needs
 
-loop-holds : tie.Need-loop-holds Inv-loop μ-loop
-loop-holds c =
-    let r = c .first-blocks .ensures in
-    (r .0, c .before .shorter .ensures .0, c .before .shorter .ensures .1, agrees-take (r .1) (omega arith) (omega arith))
+rank-of-requires : tie.Need-rank-of-requires
+rank-of-requires c κs = search needs
 
-shared-slice-read-left : tie.Need-shared-slice-read-left Inv-loop μ-loop
-shared-slice-read-left c = search needs
+shared-slice-read-rank-of-2 : tie.Need-shared-slice-read-rank-of-2
+shared-slice-read-rank-of-2 c = search needs
 
-shared-slice-read-right : tie.Need-shared-slice-read-right Inv-loop μ-loop
-shared-slice-read-right c = search needs
+rank-of-requires-2 : tie.Need-rank-of-requires-2
+rank-of-requires-2 c κs = search needs
 
-cast-smaller-number : tie.Need-cast-smaller-number Inv-loop μ-loop
-cast-smaller-number c =
-    let k = c .before .before .before .before .loop .k in
-    omega (arith, c .before .before .shared-slice-known3 .given k, c .before .shared-slice-known4 .given k)
-
-cast-smaller-number-2 : tie.Need-cast-smaller-number-2 Inv-loop μ-loop
-cast-smaller-number-2 c =
-    let k = c .before .before .before .before .loop .k in
-    omega (arith, c .before .before .shared-slice-known3 .given k, c .before .shared-slice-known4 .given k)
-
-smaller-number-requires : tie.Need-smaller-number-requires Inv-loop μ-loop
+smaller-number-requires : tie.Need-smaller-number-requires
 smaller-number-requires c κs = search needs
 
-returns : tie.Need-returns Inv-loop μ-loop
+returns : tie.Need-returns
 returns c =
-    let l = c .before .before .before .before .before in
-    let a = l .before .before .before .before .before .args in
-    rw (c .smaller-number .ensures) (compared-differ (a .a .now) (a .b .now) (l .loop .k) (l .loop .inv .3) (omega arith) (omega arith) (c .before .if1 .taken))
+    let s = c .before .before .before .before .before .before .before .before .before .before .before in
+    let r = c .before .before .before .before .before .before .before .shared-bytes in
+    let x = c .before .before .before .rank-of in
+    let y = c .before .rank-of2 in
+    rw (c .smaller-number .ensures)
+    (compared-differ (s .args .ranks .now) (s .args .a .now) (s .args .b .now) (r .result) (r .ensures) (s .pre) (omega arith) (omega arith) (x .result) (y .result)
+    (x .ensures .0) (y .ensures .0) (x .ensures .1) (y .ensures .1))
 
-add-k : tie.Need-add-k Inv-loop μ-loop
-add-k c = search needs
-
-loop-less : tie.Need-loop-less Inv-loop μ-loop
-loop-less c = search needs
-
-loop-again : tie.Need-loop-again Inv-loop μ-loop
-loop-again c =
-    let l = c .before .before .before .before in
-    let a = l .before .before .before .before .before .args in
-    (search needs, l .loop .inv .1, l .loop .inv .2, agree-on (a .a .now) (a .b .now) (l .loop .k) (l .loop .inv .3) (omega arith) (omega arith) (c .if1 .left))
-
-smaller-number-requires-2 : tie.Need-smaller-number-requires-2 Inv-loop μ-loop
+smaller-number-requires-2 : tie.Need-smaller-number-requires-2
 smaller-number-requires-2 c κs = search needs
 
-returns-2 : tie.Need-returns-2 Inv-loop μ-loop
+returns-2 : tie.Need-returns-2
 returns-2 c =
-    let l = c .before .before in
-    let a = l .before .before .before .before .before .args in
-    let e : l .loop .k ≡ l .before .before .shorter .result = omega arith in
-    rw (c .smaller-number2 .ensures)
-    (compared-ends (a .a .now) (a .b .now) (l .before .before .shorter .result) (rw e at (l .loop .inv .3)) (omega arith) (omega arith) (l .before .before .shorter .ensures .2))
+    let s = c .before .before .before .before .before .before .before in
+    let r = c .before .before .before .shared-bytes in
+    let e = c .before .before .shorter .ensures in
+    let ends : (length (s .args .a .now) ≤ r .result) ⊎ (length (s .args .b .now) ≤ r .result) =
+    ⊎-elim (λ h. inl (omega arith)) (λ h. inr (omega arith)) (e .2) in
+    rw (c .smaller-number2 .ensures) (compared-ends (s .args .ranks .now) (s .args .a .now) (s .args .b .now) (r .result) (r .ensures) ends)
 
 pub compare-spec : {M : Type 1} → statement M
 compare-spec =
     tie.close
     (tie.spec
-    Inv-loop
-    μ-loop
+    shared-bytes-requires
     shorter-requires
-    first-blocks-requires
-    loop-holds
-    shared-slice-read-left
-    shared-slice-read-right
-    cast-smaller-number
-    cast-smaller-number-2
+    shared-slice-read-rank-of
+    rank-of-requires
+    shared-slice-read-rank-of-2
+    rank-of-requires-2
     smaller-number-requires
     returns
-    add-k
-    loop-less
-    loop-again
     smaller-number-requires-2
     returns-2)

@@ -1,15 +1,15 @@
 -- `scan::first_blocks` meets its contract: what agrees in the first bytes of both strings agrees in the strings.
-use mathlib.Core.Path.{_≡_, sym}
+use mathlib.Core.Path.{sym}
 use native.Mathlib.Omega.{arith}
 use lib.ListN.{length-take}
 use lib.Seq.{length-take-le}
 use borrow.Author.Needs.{needs}
-use Rattle.scan.proofs.Alike.{agrees-front}
+use Rattle.leaps.proofs.Alike.{agrees-front}
 use Rattle.scan.proofs.first_blocks.Statement.{statement}
 use Rattle.scan.proofs.first_blocks.Tie as tie
 use Rattle.scan.proofs.first_blocks.Reads as reads
 use Rattle.scan.proofs.first_blocks.Lts as lts
-use Rattle.scan.proofs.blocks.agree_blocks.Reads as agree-blocks-reads
+use Rattle.leaps.proofs.agree_blocks.Reads as agree-blocks-reads
 
 returns : tie.Need-returns
 returns c = search needs

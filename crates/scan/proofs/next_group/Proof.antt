@@ -1,36 +1,43 @@
 -- `scan::next_group` meets its contract: both loops keep the state of Duval's scan, and where it stops the group is read off.
 use mathlib.Core.Logic.{⊎-elim}
+use mathlib.Core.Path.{_≡_, sym}
+use Prim.Native.Nat.{_-_, _≤_, _<_}
 use lib.ListN.{length}
-use Rattle.words.proofs.Scan.{Scan, scan-start}
-use Rattle.scan.proofs.Next.{next-group, turn-same, turn-up, stop-smaller, stop-end}
-use Prim.Native.Nat.{_+_, _-_, _≤_, _<_}
-use borrow.Author.Needs.{needs}
 use native.Mathlib.Omega.{arith}
+use Rattle.words.proofs.Scan.{Scan, scan-start}
+use Rattle.ranks.specs.Ranks.{ranked}
+use Rattle.ranks.proofs.Ranked.{length-ranked, ranks-agree, ranks-below}
+use Rattle.scan.proofs.Next.{next-group, turn-same, turn-up, stop-smaller, stop-end}
+use borrow.Author.Needs.{needs}
 use Rattle.scan.proofs.next_group.Statement.{statement}
 use Rattle.scan.proofs.next_group.Tie as tie
 use Rattle.scan.proofs.next_group.Reads as reads
 use Rattle.scan.proofs.next_group.Lts as lts
-use Rattle.scan.proofs.blocks.leap.Reads as leap-reads
-use Rattle.scan.proofs.blocks.next_gap.Reads as next-gap-reads
+use Rattle.leaps.proofs.leap.Reads as leap-reads
+use Rattle.leaps.proofs.next_gap.Reads as next-gap-reads
+use Rattle.ranks.proofs.below.Reads as below-reads
 use Rattle.scan.proofs.shorter.Reads as shorter-reads
 
 abbrev Inv-loop2 : tie.InvT-loop2
-Inv-loop2 s i n p₀ j₀ gap stop p j = (j ≤ stop) × Scan s i j p
+Inv-loop2 s ranks i n p₀ j₀ gap stop p j = (j ≤ stop) × Scan (ranked ranks s) i j p × (length (ranked ranks s) ≡ length s)
 
 abbrev μ-loop2 : tie.MeasureT-loop2
-μ-loop2 s i n p₀ j₀ gap stop p j = stop - j
+μ-loop2 s ranks i n p₀ j₀ gap stop p j = stop - j
 
 abbrev Inv-loop : tie.InvT-loop
-Inv-loop s i n p₀ j₀ gap₀ p j gap = (0 < gap) × (gap ≤ 64) × Scan s i j p
+Inv-loop s ranks i n p₀ j₀ gap₀ p j gap = (0 < gap) × (gap ≤ 64) × Scan (ranked ranks s) i j p × (length (ranked ranks s) ≡ length s)
 
 abbrev μ-loop : tie.MeasureT-loop
-μ-loop s i n p₀ j₀ gap₀ p j gap = length s - j
+μ-loop s ranks i n p₀ j₀ gap₀ p j gap = length s - j
 
 add-j : tie.Need-add-j Inv-loop2 μ-loop2 Inv-loop μ-loop
 add-j c = search needs
 
 loop-holds : tie.Need-loop-holds Inv-loop2 μ-loop2 Inv-loop μ-loop
-loop-holds c = (search needs, search needs, scan-start (c .before .args .s .now) (c .before .args .i) (search needs))
+loop-holds c =
+    let a = c .before .before .args in
+    let e = length-ranked (a .ranks .now) (a .s .now) in
+    (search needs, search needs, scan-start (ranked (a .ranks .now) (a .s .now)) (a .i) (omega arith), e)
 
 sub-shorter : tie.Need-sub-shorter Inv-loop2 μ-loop2 Inv-loop μ-loop
 sub-shorter c = search needs
@@ -42,7 +49,7 @@ add-stop : tie.Need-add-stop Inv-loop2 μ-loop2 Inv-loop μ-loop
 add-stop c = search needs
 
 loop2-holds : tie.Need-loop2-holds Inv-loop2 μ-loop2 Inv-loop μ-loop
-loop2-holds c = (search needs, c .before .before .loop .inv .2)
+loop2-holds c = (search needs, c .before .before .loop .inv .2, c .before .before .loop .inv .3)
 
 sub-x : tie.Need-sub-x Inv-loop2 μ-loop2 Inv-loop μ-loop
 sub-x c = search needs
@@ -53,16 +60,21 @@ shared-slice-read-x c = search needs
 shared-slice-read-y : tie.Need-shared-slice-read-y Inv-loop2 μ-loop2 Inv-loop μ-loop
 shared-slice-read-y c = search needs
 
-sub-t20 : tie.Need-sub-t20 Inv-loop2 μ-loop2 Inv-loop μ-loop
-sub-t20 c = search needs
+below-requires : tie.Need-below-requires Inv-loop2 μ-loop2 Inv-loop μ-loop
+below-requires c κs = search needs
 
-div-t21 : tie.Need-div-t21 Inv-loop2 μ-loop2 Inv-loop μ-loop
-div-t21 c = search needs
+sub-t21 : tie.Need-sub-t21 Inv-loop2 μ-loop2 Inv-loop μ-loop
+sub-t21 c = search needs
+
+div-t22 : tie.Need-div-t22 Inv-loop2 μ-loop2 Inv-loop μ-loop
+div-t22 c = search needs
 
 returns : tie.Need-returns Inv-loop2 μ-loop2 Inv-loop μ-loop
 returns c =
-    let l = c .before .before .before .before .before in
-    next-group (l .loop2 .inv .1) (stop-smaller (l .loop2 .inv .1) (search needs))
+    let l = c .before .before .before .before .before .before in
+    let a = l .before .before .before .before .before .before .args in
+    let h = c .before .below .ensures .yes (c .if2 .taken) in
+    next-group (l .loop2 .inv .1) (stop-smaller (l .loop2 .inv .1) (ranks-below (a .ranks .now) (a .s .now) (a .s .now) (l .loop2 .j) (l .loop2 .j - l .loop2 .p) (search needs) (search needs) h))
 
 add-p : tie.Need-add-p Inv-loop2 μ-loop2 Inv-loop μ-loop
 add-p c = search needs
@@ -79,10 +91,21 @@ loop2-less c = search needs
 loop2-again : tie.Need-loop2-again Inv-loop2 μ-loop2 Inv-loop μ-loop
 loop2-again c =
     let l = c .before .before .before .before in
-    (search needs, ⊎-elim (λ w. rw (w .2) (turn-up (l .loop2 .inv .1) (search needs) (omega (arith, w .1 .left)))) (λ w. rw (w .1) (turn-same (l .loop2 .inv .1) (search needs) (w .0 .left))) (c .if1 .came))
+    let a = l .before .before .before .before .before .before .args in
+    let x : l .loop2 .j - l .loop2 .p < length (a .s .now) = search needs in
+    let y : l .loop2 .j < length (a .s .now) = search needs in (
+      search needs,
+      ⊎-elim
+          (λ w. rw (w .3) (turn-up (l .loop2 .inv .1) (search needs) (ranks-below (a .ranks .now) (a .s .now) (a .s .now) (l .loop2 .j - l .loop2 .p) (l .loop2 .j) x y (w .1 .ensures .no (w .2 .left) (λ e. w .0 .taken (sym e))))))
+          (λ w. rw (w .1) (turn-same (l .loop2 .inv .1) (search needs) (ranks-agree (a .ranks .now) (a .s .now) (a .s .now) (l .loop2 .j - l .loop2 .p) (l .loop2 .j) x y (w .0 .left))))
+          (c .if1 .came),
+      l .loop2 .inv .2,
+    )
 
 leap-requires : tie.Need-leap-requires Inv-loop2 μ-loop2 Inv-loop μ-loop
-leap-requires c κs = search needs
+leap-requires c κs =
+    let s = c .before .before .before .before .before .before .before in
+    (s .pre .0, c .before .loop2 .inv .1)
 
 next-gap-requires : tie.Need-next-gap-requires Inv-loop2 μ-loop2 Inv-loop μ-loop
 next-gap-requires c κs = search needs
@@ -95,13 +118,13 @@ loop-less c =
     omega arith
 
 loop-again : tie.Need-loop-again Inv-loop2 μ-loop2 Inv-loop μ-loop
-loop-again c = (search needs, search needs, c .before .before .leap .ensures .1)
+loop-again c = (search needs, search needs, c .before .before .leap .ensures .1, c .before .before .before .before .loop2 .inv .2)
 
-sub-t23 : tie.Need-sub-t23 Inv-loop2 μ-loop2 Inv-loop μ-loop
-sub-t23 c = search needs
+sub-t24 : tie.Need-sub-t24 Inv-loop2 μ-loop2 Inv-loop μ-loop
+sub-t24 c = search needs
 
-div-t24 : tie.Need-div-t24 Inv-loop2 μ-loop2 Inv-loop μ-loop
-div-t24 c = search needs
+div-t25 : tie.Need-div-t25 Inv-loop2 μ-loop2 Inv-loop μ-loop
+div-t25 c = search needs
 
 returns-2 : tie.Need-returns-2 Inv-loop2 μ-loop2 Inv-loop μ-loop
 returns-2 c = next-group (c .before .loop .inv .2) (stop-end (c .before .loop .inv .2) (search needs))
@@ -123,8 +146,9 @@ next-group-spec =
     sub-x
     shared-slice-read-x
     shared-slice-read-y
-    sub-t20
-    div-t21
+    below-requires
+    sub-t21
+    div-t22
     returns
     add-p
     sub-p
@@ -135,6 +159,6 @@ next-group-spec =
     next-gap-requires
     loop-less
     loop-again
-    sub-t23
-    div-t24
+    sub-t24
+    div-t25
     returns-2)

@@ -1,8 +1,11 @@
 -- `suffix_chain::group_at` meets its contract: the loop counts equal factors forward, and where it stops the group is read off.
+use mathlib.Core.Path.{_≡_, _∙_}
 use Prim.Native.Nat.{_-_}
-use lib.ListN.{length as size}
+use lib.ListN.{length as size, getD}
 use borrow.Author.Tests.{not-true, not-false}
-use Rattle.suffix_chain.proofs.After.{Equal, equal-start, equal-turn, stop-end, stop-length, stop-word, array-room, array-entry, array-fits}
+use Rattle.ranks.specs.Ranks.{Bytes, ranked}
+use Rattle.ranks.proofs.Ranked.{length-ranked}
+use Rattle.suffix_chain.proofs.After.{Equal, equal-start, equal-turn, stop-end, stop-length, stop-word, array-room, array-entry, array-fits, same-words}
 use borrow.Author.Needs.{needs}
 use native.Mathlib.Omega.{arith}
 use Rattle.suffix_chain.proofs.group_at.Statement.{statement}
@@ -12,52 +15,53 @@ use Rattle.suffix_chain.proofs.group_at.Lts as lts
 use Rattle.scan.proofs.agree.Reads as agree-reads
 
 abbrev Inv-loop : tie.InvT-loop
-Inv-loop s table i n length end power₀ j₀ power j = Equal s i length power j
+Inv-loop s ranks table i n length end power₀ j₀ power j = Equal (ranked ranks s) i length power j × (size (ranked ranks s) ≡ size s)
 
 abbrev μ-loop : tie.MeasureT-loop
-μ-loop s table i n length end power₀ j₀ power j = size s - j
+μ-loop s ranks table i n length end power₀ j₀ power j = size s - j
 
 mul-length : tie.Need-mul-length Inv-loop μ-loop
 mul-length c = search needs
 
 shared-slice-read-length : tie.Need-shared-slice-read-length Inv-loop μ-loop
 shared-slice-read-length c =
-    let f = c .before .before .before in
-    omega (arith, array-room (f .args .s .now) (f .args .table .now) (f .pre .1))
+    let f = c .before .before .before .before in
+    omega (arith, array-room (f .args .ranks .now) (f .args .s .now) (f .args .table .now) (f .pre .2))
 
 cast-length : tie.Need-cast-length Inv-loop μ-loop
 cast-length c =
-    let f = c .before .before .before in
-    omega (arith, c .shared-slice-known3 .given (f .args .i))
+    let f = c .before .before .before .before in
+    omega (arith, c .shared-slice-known4 .given (f .args .i))
 
 add-end : tie.Need-add-end Inv-loop μ-loop
 add-end c =
-    let f = c .before .before .before in
-    omega (arith, array-fits (f .args .s .now) (f .args .table .now) (f .pre .1) (f .args .i) (f .pre .0))
+    let f = c .before .before .before .before in
+    omega (arith, array-fits (f .args .ranks .now) (f .args .s .now) (f .args .table .now) (f .pre .2) (f .args .i) (f .pre .1))
 
 loop-holds : tie.Need-loop-holds Inv-loop μ-loop
 loop-holds c =
-    let f = c .before .before .before in
-    let e = array-entry (f .args .s .now) (f .args .table .now) (f .pre .1) (f .args .i) (f .pre .0) in
-    equal-start (f .args .s .now) (f .args .i) _ (f .pre .0) e
+    let f = c .before .before .before .before in
+    let e = array-entry (f .args .ranks .now) (f .args .s .now) (f .args .table .now) (f .pre .2) (f .args .i) (f .pre .1) in
+    let r = length-ranked (f .args .ranks .now) (f .args .s .now) in
+    (equal-start (ranked (f .args .ranks .now) (f .args .s .now)) (f .args .i) _ (rw r (f .pre .1)) e, r)
 
 mul-if1 : tie.Need-mul-if1 Inv-loop μ-loop
 mul-if1 c = search needs
 
 shared-slice-read-if1 : tie.Need-shared-slice-read-if1 Inv-loop μ-loop
 shared-slice-read-if1 c =
-    let f = c .before .before .before .before .before .before in
-    omega (arith, array-room (f .args .s .now) (f .args .table .now) (f .pre .1))
+    let f = c .before .before .before .before .before .before .before in
+    omega (arith, array-room (f .args .ranks .now) (f .args .s .now) (f .args .table .now) (f .pre .2))
 
 cast-if1 : tie.Need-cast-if1 Inv-loop μ-loop
-cast-if1 c = omega (arith, c .shared-slice-known4 .given (c .before .before .loop .j))
+cast-if1 c = omega (arith, c .shared-slice-known5 .given (c .before .before .loop .j))
 
 returns : tie.Need-returns Inv-loop μ-loop
 returns c =
     let l = c .before .before .before in
-    let f = l .before .before .before .before in
-    let e = array-entry (f .args .s .now) (f .args .table .now) (f .pre .1) (l .loop .j) (search needs) in
-    stop-length (l .loop .inv) (search needs) e (c .if1 .taken)
+    let f = l .before .before .before .before .before in
+    let e = array-entry (f .args .ranks .now) (f .args .s .now) (f .args .table .now) (f .pre .2) (l .loop .j) (search needs) in
+    stop-length (l .loop .inv .0) (search needs) e (c .if1 .taken)
 
 add-next : tie.Need-add-next Inv-loop μ-loop
 add-next c = search needs
@@ -80,8 +84,8 @@ part-agree-start-2 c = search needs
 part-agree-end-2 : tie.Need-part-agree-end-2 Inv-loop μ-loop
 part-agree-end-2 c =
     let l = c .before .before .before .before in
-    let f = l .before .before .before .before in
-    omega (arith, array-fits (f .args .s .now) (f .args .table .now) (f .pre .1) (l .loop .j) (search needs))
+    let f = l .before .before .before .before .before in
+    omega (arith, array-fits (f .args .ranks .now) (f .args .s .now) (f .args .table .now) (f .pre .2) (l .loop .j) (search needs))
 
 agree-requires : tie.Need-agree-requires Inv-loop μ-loop
 agree-requires c κs = search needs
@@ -89,9 +93,11 @@ agree-requires c κs = search needs
 returns-2 : tie.Need-returns-2 Inv-loop μ-loop
 returns-2 c =
     let l = c .before .before .before .before .before .before .before in
-    let f = l .before .before .before .before in
-    let e = array-entry (f .args .s .now) (f .args .table .now) (f .pre .1) (l .loop .j) (search needs) in
-    stop-word (l .loop .inv) (search needs) e (search needs) (c .before .agree .ensures) (not-true _ (c .if2 .taken))
+    let f = l .before .before .before .before .before in
+    let e = array-entry (f .args .ranks .now) (f .args .s .now) (f .args .table .now) (f .pre .2) (l .loop .j) (search needs) in
+    let b : Bytes (f .args .s .now) = λ k h. omega (arith, l .before .before .before .before .shared-slice-known .given k) in
+    let parts = same-words (f .pre .0) (f .args .s .now) b (f .args .i) (l .loop .j) (getD (f .args .table .now) (f .args .i) 0) in
+    stop-word (l .loop .inv .0) (search needs) e (search needs) (c .before .agree .ensures ∙ parts) (not-true _ (c .if2 .taken))
 
 add-power : tie.Need-add-power Inv-loop μ-loop
 add-power c = search needs
@@ -102,12 +108,14 @@ loop-less c = search needs
 loop-again : tie.Need-loop-again Inv-loop μ-loop
 loop-again c =
     let l = c .before .before .before .before .before .before .before in
-    let f = l .before .before .before .before in
-    let e = array-entry (f .args .s .now) (f .args .table .now) (f .pre .1) (l .loop .j) (search needs) in
-    equal-turn (l .loop .inv) (search needs) e (search needs) (c .before .agree .ensures) (not-false _ (c .if2 .left))
+    let f = l .before .before .before .before .before in
+    let e = array-entry (f .args .ranks .now) (f .args .s .now) (f .args .table .now) (f .pre .2) (l .loop .j) (search needs) in
+    let b : Bytes (f .args .s .now) = λ k h. omega (arith, l .before .before .before .before .shared-slice-known .given k) in
+    let parts = same-words (f .pre .0) (f .args .s .now) b (f .args .i) (l .loop .j) (getD (f .args .table .now) (f .args .i) 0) in
+    (equal-turn (l .loop .inv .0) (search needs) e (search needs) (c .before .agree .ensures ∙ parts) (not-false _ (c .if2 .left)), l .loop .inv .1)
 
 returns-3 : tie.Need-returns-3 Inv-loop μ-loop
-returns-3 c = stop-end (c .before .loop .inv) (search needs)
+returns-3 c = stop-end (c .before .loop .inv .0) (search needs)
 
 pub group-at-spec : {M : Type 1} → statement M
 group-at-spec =

@@ -3,6 +3,8 @@ use mathlib.Core.Path.{_≡_, ap}
 use Prim.Native.Nat.{_≤_, _-_, _+_}
 use lib.ListN.{length}
 use native.Mathlib.Omega.{arith}
+use Rattle.ranks.specs.Ranks.{ranked}
+use Rattle.ranks.proofs.Ranked.{length-ranked}
 use Rattle.words.specs.Tables.{suffixGroups}
 use Rattle.scan.specs.Group.{GroupFrom}
 use Rattle.scan.proofs.Next.{suffix-end, group-long}
@@ -20,17 +22,21 @@ use Rattle.text.proofs.line_length.Reads as line-length-reads
 use Rattle.scan.proofs.shared_length.Reads as shared-length-reads
 
 abbrev Inv-loop : tie.InvT-loop
-Inv-loop s from total₀ i₀ g₀ total i g =
-    (i ≤ length s) × GroupFrom s i (g .length) (g .power) × (total + length (lines s (suffixGroups s i)) ≡ length (lines s (suffixGroups s from)))
+Inv-loop s ranks from total₀ i₀ g₀ total i g =
+    (i ≤ length s) × GroupFrom (ranked ranks s) i (g .length) (g .power)
+    × (total + length (lines s (suffixGroups (ranked ranks s) i)) ≡ length (lines s (suffixGroups (ranked ranks s) from)))
+    × (length (ranked ranks s) ≡ length s)
 
 abbrev μ-loop : tie.MeasureT-loop
-μ-loop s from total₀ i₀ g₀ total i g = length s - i
+μ-loop s ranks from total₀ i₀ g₀ total i g = length s - i
 
 group-from-requires : tie.Need-group-from-requires Inv-loop μ-loop
 group-from-requires c κs = search needs
 
 loop-holds : tie.Need-loop-holds Inv-loop μ-loop
-loop-holds c = (search needs, c .group-from .ensures, omega arith)
+loop-holds c =
+    let a = c .before .before .before .args in
+    (search needs, c .group-from .ensures, omega arith, length-ranked (a .ranks .now) (a .s .now))
 
 add-end : tie.Need-add-end Inv-loop μ-loop
 add-end c =
@@ -53,7 +59,7 @@ group-from-requires-2 c κs = search needs
 shared-length-requires : tie.Need-shared-length-requires Inv-loop μ-loop
 shared-length-requires c κs =
     let g = c .before .before .before .before .loop .inv .1 .group (search needs) in
-    (omega (arith, length-fits g, g .fits), from-fits (c .group-from2 .ensures) (g .fits))
+    (omega (arith, length-fits g, g .fits), omega (arith, from-fits (c .group-from2 .ensures) (g .fits)))
 
 sub-line-length : tie.Need-sub-line-length Inv-loop μ-loop
 sub-line-length c = omega arith
@@ -69,20 +75,20 @@ part-line-length-end c =
 line-length-requires : tie.Need-line-length-requires Inv-loop μ-loop
 line-length-requires c κs =
     let l = c .before .before .before .before .before .before in
-    let a = l .before .before .before .args in
+    let a = l .before .before .before .before .args in
     let g = l .loop .inv .1 .group (search needs) in
-    let all = length (lines (a .s .now) (suffixGroups (a .s .now) (a .from))) in
-    let n = measure-turn g (c .before .before .group-from2 .ensures) (c .before .shared-length .ensures) (l .loop .total) all (l .loop .inv .2) in
-    omega (arith, suffix-most (a .s .now) (a .from) (search needs) (search needs))
+    let all = length (lines (a .s .now) (suffixGroups (ranked (a .ranks .now) (a .s .now)) (a .from))) in
+    let n = measure-turn (a .s .now) (l .loop .inv .3) g (c .before .before .group-from2 .ensures) (c .before .shared-length .ensures) (l .loop .total) all (l .loop .inv .2) in
+    omega (arith, suffix-most (a .ranks .now) (a .s .now) (a .from) (search needs) (search needs))
 
 add-total : tie.Need-add-total Inv-loop μ-loop
 add-total c =
     let l = c .before .before .before .before .before .before .before in
-    let a = l .before .before .before .args in
+    let a = l .before .before .before .before .args in
     let g = l .loop .inv .1 .group (search needs) in
-    let all = length (lines (a .s .now) (suffixGroups (a .s .now) (a .from))) in
-    let n = measure-turn g (c .before .before .before .group-from2 .ensures) (c .before .before .shared-length .ensures) (l .loop .total) all (l .loop .inv .2) in
-    omega (arith, suffix-most (a .s .now) (a .from) (search needs) (search needs))
+    let all = length (lines (a .s .now) (suffixGroups (ranked (a .ranks .now) (a .s .now)) (a .from))) in
+    let n = measure-turn (a .s .now) (l .loop .inv .3) g (c .before .before .before .group-from2 .ensures) (c .before .before .shared-length .ensures) (l .loop .total) all (l .loop .inv .2) in
+    omega (arith, suffix-most (a .ranks .now) (a .s .now) (a .from) (search needs) (search needs))
 
 loop-less : tie.Need-loop-less Inv-loop μ-loop
 loop-less c =
@@ -92,16 +98,16 @@ loop-less c =
 loop-again : tie.Need-loop-again Inv-loop μ-loop
 loop-again c =
     let l = c .before .before .before .before .before .before .before in
-    let a = l .before .before .before .args in
+    let a = l .before .before .before .before .args in
     let g = l .loop .inv .1 .group (search needs) in
-    let all = length (lines (a .s .now) (suffixGroups (a .s .now) (a .from))) in
-    let n = measure-turn g (c .before .before .before .group-from2 .ensures) (c .before .before .shared-length .ensures) (l .loop .total) all (l .loop .inv .2) in
-    (g .fits, c .before .before .before .group-from2 .ensures, omega arith)
+    let all = length (lines (a .s .now) (suffixGroups (ranked (a .ranks .now) (a .s .now)) (a .from))) in
+    let n = measure-turn (a .s .now) (l .loop .inv .3) g (c .before .before .before .group-from2 .ensures) (c .before .before .shared-length .ensures) (l .loop .total) all (l .loop .inv .2) in
+    (omega (arith, g .fits), c .before .before .before .group-from2 .ensures, omega arith, l .loop .inv .3)
 
 returns : tie.Need-returns Inv-loop μ-loop
 returns c =
-    let a = c .before .before .before .before .args in
-    let none = ap (lines (a .s .now)) (suffix-end (a .s .now) (c .before .loop .i) (search needs)) in
+    let a = c .before .before .before .before .before .args in
+    let none = ap (lines (a .s .now)) (suffix-end (ranked (a .ranks .now) (a .s .now)) (c .before .loop .i) (search needs)) in
     omega (arith, ap length none)
 
 pub lines-length-spec : {M : Type 1} → statement M

@@ -13,10 +13,14 @@ lines-length-requires : tie.Need-lines-length-requires
 lines-length-requires c κs = search needs
 
 add-result : tie.Need-add-result
-add-result c = omega (arith, suffix-most (c .before .before .args .s .now) 0 (search needs) (search needs))
+add-result c =
+    let a = c .before .before .before .args in
+    omega (arith, suffix-most (a .ranks .now) (a .s .now) 0 (search needs) (search needs))
 
 returns : tie.Need-returns
-returns c = omega (arith, listing-length (c .before .before .args .s .now))
+returns c =
+    let a = c .before .before .before .args in
+    omega (arith, listing-length (a .ranks .now) (a .s .now))
 
 pub listing-length-spec : {M : Type 1} → statement M
 listing-length-spec = tie.close (tie.spec lines-length-requires add-result returns)

@@ -11,12 +11,15 @@ use Rattle.text.proofs.write_header.Reads as write-header-reads
 use Rattle.text.proofs.write_lines.Reads as write-lines-reads
 
 write-header-requires : tie.Need-write-header-requires
-write-header-requires c κs = omega (arith, listing-length (c .before .before .before .args .s .now), length-header)
+write-header-requires c κs =
+    let a = c .before .before .before .before .args in
+    omega (arith, listing-length (a .ranks .now) (a .s .now), length-header)
 
 write-lines-requires : tie.Need-write-lines-requires
 write-lines-requires c κs =
-    let a = c .before .before .before .before .before .before .before .args in
-    (search needs, omega (arith, listing-length (a .s .now), length-header))
+    let s = c .before .before .before .before .before .before .before .before in
+    let a = s .args in
+    (s .pre .0, search needs, omega (arith, listing-length (a .ranks .now) (a .s .now), length-header))
 
 same-length : tie.Need-same-length
 same-length c = search needs
@@ -25,8 +28,8 @@ returns : tie.Need-returns
 returns c =
     let lines = c .before .before in
     let head = lines .before .before .before .before in
-    let a = head .before .before .before .before in
-    listing-put (a .args .s .now) (a .args .buffer .now) (search needs) (head .write-header .ensures) (lines .write-lines .ensures)
+    let a = head .before .before .before .before .before .args in
+    listing-put (a .ranks .now) (a .s .now) (a .buffer .now) (search needs) (head .write-header .ensures) (lines .write-lines .ensures)
 
 pub write-text-spec : {M : Type 1} → statement M
 write-text-spec =

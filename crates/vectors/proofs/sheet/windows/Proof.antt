@@ -8,10 +8,10 @@ use Rattle.vectors.proofs.sheet.windows.Lts as lts
 use Rattle.show.proofs.calls.longest_word.Reads as longest-word-reads
 
 abbrev Inv-loop : tie.InvT-loop
-Inv-loop letters i₀ i = i ≤ 64
+Inv-loop letters order i₀ i = i ≤ 64
 
 abbrev μ-loop : tie.MeasureT-loop
-μ-loop letters i₀ i = 64 - i
+μ-loop letters order i₀ i = 64 - i
 
 loop-holds : tie.Need-loop-holds Inv-loop μ-loop
 loop-holds c = search needs

@@ -1,0 +1,13 @@
+pub mod Times
+pub mod Ranked
+pub mod Marks
+pub mod Smaller
+pub mod Shared
+pub mod Inverse
+pub mod Words
+pub mod Factors
+pub mod Demand
+pub mod Repeated
+pub mod ByteOrder
+pub mod Examples
+pub mod Theorems
