@@ -132,7 +132,7 @@ static const row rows[] = {
     { "lyndon_longest_word", run_longest_word, N, 1024, 0 },
     { "lyndon_is_lyndon", run_is_lyndon, N, 1024, 0 },
     { "lyndon_least_rotation", run_least_rotation, N, 1024, 0 },
-    { "lyndon_tree", run_tree, LYNDON_MAX_TREE, 49152, 36864 },
+    { "lyndon_tree", run_tree, LYNDON_MAX_TREE, 57344, 43008 },
     { "lyndon_factor_prefix", run_prefix, N, 1024, 0 },
     { "lyndon_factor_suffix", run_suffix, N, 3072, 128 },
     { "lyndon_compare", run_compare, N, 1024, 0 },
