@@ -50,6 +50,10 @@ module _ {s : List ℕ} {i j p : ℕ} (c : Scan s i j p) where
 pub group-long : {s : List ℕ} {i size power : ℕ} → NextGroup s i size power → i < i + power * size
 group-long g = omega (arith, mul-pos (g .some) (g .factor))
 
+-- two symbols that differ, the other way round
+pub turned : {x y : ℕ} → (x ≡ y → ⊥) → y ≡ x → ⊥
+turned n e = n (sym e)
+
 -- the scan that gives the group
 pub record GroupScan (s : List ℕ) (i size power : ℕ) : Type 0 where
   pub stop : ℕ

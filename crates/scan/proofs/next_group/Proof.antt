@@ -1,13 +1,13 @@
 -- `scan::next_group` meets its contract: both loops keep the state of Duval's scan, and where it stops the group is read off.
 use mathlib.Core.Logic.{⊎-elim}
-use mathlib.Core.Path.{_≡_, sym}
+use mathlib.Core.Path.{_≡_}
 use Prim.Native.Nat.{_-_, _≤_, _<_}
 use lib.ListN.{length}
 use native.Mathlib.Omega.{arith}
 use Rattle.words.proofs.Scan.{Scan, scan-start}
 use Rattle.ranks.specs.Ranks.{ranked}
 use Rattle.ranks.proofs.Ranked.{length-ranked, ranks-agree, ranks-below}
-use Rattle.scan.proofs.Next.{next-group, turn-same, turn-up, stop-smaller, stop-end}
+use Rattle.scan.proofs.Next.{next-group, turn-same, turn-up, stop-smaller, stop-end, turned}
 use borrow.Author.Needs.{needs}
 use Rattle.scan.proofs.next_group.Statement.{statement}
 use Rattle.scan.proofs.next_group.Tie as tie
@@ -96,7 +96,7 @@ loop2-again c =
     let y : l .loop2 .j < length (a .s .now) = search needs in (
       search needs,
       ⊎-elim
-          (λ w. rw (w .3) (turn-up (l .loop2 .inv .1) (search needs) (ranks-below (a .ranks .now) (a .s .now) (a .s .now) (l .loop2 .j - l .loop2 .p) (l .loop2 .j) x y (w .1 .ensures .no (w .2 .left) (λ e. w .0 .taken (sym e))))))
+          (λ w. rw (w .3) (turn-up (l .loop2 .inv .1) (search needs) (ranks-below (a .ranks .now) (a .s .now) (a .s .now) (l .loop2 .j - l .loop2 .p) (l .loop2 .j) x y (w .1 .ensures .no (w .2 .left) (turned (w .0 .taken))))))
           (λ w. rw (w .1) (turn-same (l .loop2 .inv .1) (search needs) (ranks-agree (a .ranks .now) (a .s .now) (a .s .now) (l .loop2 .j - l .loop2 .p) (l .loop2 .j) x y (w .0 .left))))
           (c .if1 .came),
       l .loop2 .inv .2,
