@@ -46,14 +46,14 @@ pub fn are_lengths(table: &[u16], i: usize, at: usize) -> bool
     requires { ⌜ (i ≤ at) × (at + 16 ≤ length (now table)) ⌝ }
     ensures { λ r. ⌜ (r ≡ true → Right (λ k. k + 1 - i) (now (table .entry)) at (at + 16)) ⌝ }
 {
-    let first = at + 1 - i;
-    if 65520 < first {
+    let size = at - i;
+    if 65519 < size {
         return false;
     }
     let mut all = true;
     for k in 0..16 {
         let x = table[at + k];
-        let y = (first + k) as u16;
+        let y = (size + k + 1) as u16;
         all = all & (x == y);
     }
     all

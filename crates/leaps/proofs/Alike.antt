@@ -10,7 +10,8 @@ use lib.Dec.{eqb, ltb}
 use lib.Seq.{getD-take, ext-getD}
 use borrow.Author.Tests.{eqb-true, ltb-true}
 use Rattle.words.proofs.Bounded.{le-or-lt, le-cases, and-true}
-use Rattle.leaps.specs.Agrees.{Agrees, Above}
+use Rattle.ranks.specs.Ranks.{rank, ranked}
+use Rattle.leaps.specs.Agrees.{Agrees, Above, AboveEnd, AboveBlock}
 
 module _ {a b : List ℕ} {i j : ℕ} where
   pub agrees-none : Agrees a i b j 0
@@ -70,6 +71,22 @@ module _ {s : List ℕ} {c j : ℕ} where
       go : (t : ℕ) → j ≤ t → (t ≡ k) ⊎ (t < k) → Above s c j k → c < getD s k 0 → c < getD s t 0
       go t h (inl q) f l = rw q l
       go t h (inr q) f l = f .at t h q
+
+  pub above-more : {k m : ℕ} → Above s c j k → Above s c k m → Above s c j m
+  above-more {k} {m} f g = record { at = λ t h l. go t h l (le-or-lt k t) }
+    where
+      go : (t : ℕ) → j ≤ t → t < m → (k ≤ t) ⊎ (t < k) → c < getD s t 0
+      go t h l (inl q) = g .at t q l
+      go t h l (inr q) = f .at t h q
+
+-- sixteen bytes from t on are above c, as was told beforehand or is of themselves
+pub above-told : {o s : List ℕ} {c j k : ℕ} (t : ℕ) {r : Bool} → AboveEnd o s c j k → AboveBlock o s c t r → r ≡ true → j ≤ t → t + 16 ≤ k
+    → Above (ranked o s) (rank o c) t (t + 16)
+above-told {o} {s} {c} {j} {k} t e b y h l = go (le-or-lt (length o) 0)
+  where
+    go : (length o ≤ 0) ⊎ (0 < length o) → Above (ranked o s) (rank o c) t (t + 16)
+    go (inl q) = b .yes y (omega arith)
+    go (inr q) = record { at = λ u m n. e .looked q .at u (omega arith) (omega arith) }
 
 -- a test that was turned round
 pub not-false : (r : Bool) → not r ≡ false → r ≡ true

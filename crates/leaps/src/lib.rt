@@ -1,6 +1,5 @@
 // Steps of sixteen bytes, which compile to a few vector instructions each: how far two strings agree, and how far Duval's scan may leap.
 // Whether bytes agree does not depend on their ranks; which is above another does. What is left of a block that fails is the byte loops' concern.
-use ranks::rank_of;
 use ranks::wide;
 ghost use mathlib.Core.Bool.{true, false};
 ghost use mathlib.Core.Path.{_≡_};
@@ -10,7 +9,7 @@ ghost use lib.ListN.{length, getD};
 ghost use Rattle.ranks.specs.Inner.{Ranks};
 ghost use Rattle.ranks.specs.Ranks.{rank, ranked};
 ghost use Rattle.words.specs.Scan.{Scan};
-ghost use Rattle.leaps.specs.Agrees.{Agrees, Above};
+ghost use Rattle.leaps.specs.Agrees.{Agrees, Above, AboveEnd, AboveBlock};
 ghost use Rattle.leaps.specs.Risen.{Run, Breaks, Exceeds, Risen};
 
 // Whether the sixteen bytes from i of a and from j of b agree.
@@ -56,28 +55,57 @@ fn above_bytes(s: &[u8], j: usize, c: u8) -> bool
 }
 
 // Whether the ranks of the sixteen bytes from j are all above d: each is looked up, with no way out between them.
-fn above_ranks(s: &[u8], ranks: &[u8], j: usize, d: usize) -> bool
+fn above_ranks(s: &[u8], ranks: &[u8], j: usize, d: u8) -> bool
     requires { ⌜ (length (now ranks) ≡ 256) × (j + 16 ≤ length (now s)) ⌝ }
     ensures { λ r. ⌜ (r ≡ true → Above (ranked (now (ranks .entry)) (now (s .entry))) d j (j + 16)) ⌝ }
 {
     let mut all = true;
     for u in 0..16 {
         let at = wide(s[j + u]);
-        let x = wide(ranks[at]);
+        let x = ranks[at];
         all = all & (d < x);
     }
     all
 }
 
-// Whether the sixteen bytes from j are all above c.
-pub fn above_block(s: &[u8], ranks: &[u8], j: usize, c: u8) -> bool
-    requires { ⌜ Ranks (now ranks) × (j + 16 ≤ length (now s)) ⌝ }
-    ensures { λ r. ⌜ (r ≡ true → Above (ranked (now (ranks .entry)) (now (s .entry))) (rank (now (ranks .entry)) c) j (j + 16)) ⌝ }
+// How far from j on the ranks are above that of c, block by block.
+fn ranks_above(s: &[u8], ranks: &[u8], j: usize, c: u8) -> usize
+    requires { ⌜ (length (now ranks) ≡ 256) × (j ≤ length (now s)) ⌝ }
+    ensures { λ r. ⌜ (j ≤ r) × (r ≤ length (now (s .entry))) × Above (ranked (now (ranks .entry)) (now (s .entry))) (rank (now (ranks .entry)) c) j r ⌝ }
+{
+    let at = wide(c);
+    let d = ranks[at];
+    let mut k = j;
+    while 16 <= s.len() - k {
+        if !above_ranks(s, ranks, k, d) {
+            return k;
+        }
+        k += 16;
+    }
+    k
+}
+
+// Where blocks of bytes above c may end that begin at j: in another order, where each byte is looked up, they do; in byte order the end of the
+// string, and `above_block` tells of each.
+pub fn above_end(s: &[u8], ranks: &[u8], j: usize, c: u8) -> usize
+    requires { ⌜ Ranks (now ranks) × (j ≤ length (now s)) ⌝ }
+    ensures { λ r. ⌜ AboveEnd (now (ranks .entry)) (now (s .entry)) c j r ⌝ }
 {
     if ranks.len() == 0 {
-        return above_bytes(s, j, c);
+        return s.len();
     }
-    above_ranks(s, ranks, j, rank_of(ranks, c))
+    ranks_above(s, ranks, j, c)
+}
+
+// Whether the sixteen bytes from j are all above c, in byte order; in another order `above_end` has told it.
+pub fn above_block(s: &[u8], ranks: &[u8], j: usize, c: u8) -> bool
+    requires { ⌜ Ranks (now ranks) × (j + 16 ≤ length (now s)) ⌝ }
+    ensures { λ r. ⌜ AboveBlock (now (ranks .entry)) (now (s .entry)) c j r ⌝ }
+{
+    if 0 < ranks.len() {
+        return true;
+    }
+    above_bytes(s, j, c)
 }
 
 // Whether one of the seven bytes behind place t is not c.
@@ -182,22 +210,6 @@ fn grow_bytes(s: &[u8], i: usize, j: usize) -> usize
     last_above(s, j, k, c)
 }
 
-// The same in any order, over blocks of bytes above the word's first.
-fn grow_above(s: &[u8], ranks: &[u8], i: usize, j: usize) -> usize
-    requires { ⌜ Ranks (now ranks) × Scan (ranked (now ranks) (now s)) i j (j - i) ⌝ }
-    ensures { λ r. ⌜ (j ≤ r) × Scan (ranked (now (ranks .entry)) (now (s .entry))) i r (r - i) ⌝ }
-{
-    let c = s[i];
-    let mut k = j;
-    while 16 <= s.len() - k {
-        if !above_block(s, ranks, k, c) {
-            return k;
-        }
-        k += 16;
-    }
-    k
-}
-
 // How many bytes are taken one by one before blocks are tried again: few after a leap, and more and more, up to `most`, where none was made.
 pub fn next_gap(gap: usize, most: usize, leapt: bool) -> usize
     requires { ⌜ (0 < gap) × (gap ≤ most) × (8 ≤ most) ⌝ }
@@ -212,15 +224,15 @@ pub fn next_gap(gap: usize, most: usize, leapt: bool) -> usize
     most
 }
 
-// Where the word from i to j ends after it has grown over blocks.
+// Where the word from i to j ends after it has grown over blocks; in another order over those of bytes above its first.
 fn grow(s: &[u8], ranks: &[u8], i: usize, j: usize) -> usize
     requires { ⌜ Ranks (now ranks) × (i + 8 ≤ j) × Scan (ranked (now ranks) (now s)) i j (j - i) ⌝ }
     ensures { λ r. ⌜ (j ≤ r) × Scan (ranked (now (ranks .entry)) (now (s .entry))) i r (r - i) ⌝ }
 {
-    if ranks.len() == 0 {
-        return grow_bytes(s, i, j);
+    if ranks.len() != 0 {
+        return ranks_above(s, ranks, j, s[i]);
     }
-    grow_above(s, ranks, i, j)
+    grow_bytes(s, i, j)
 }
 
 // Where Duval's scan stands: at place j, with the period p.

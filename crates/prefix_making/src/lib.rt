@@ -3,6 +3,7 @@ use entries::copy_entries;
 use entries::steps;
 use entries::write_lengths;
 use leaps::above_block;
+use leaps::above_end;
 use leaps::agree_block;
 use leaps::next_gap;
 use prefix_table::Mark;
@@ -33,8 +34,9 @@ fn make_above(s: &[u8], ranks: &[u8], table: &mut [u16], i: usize, from: usize) 
     ensures { λ r. ⌜ (from ≤ r) × Making (ranked (now (ranks .entry)) (now (s .entry))) (now (table .entry)) (now (table .exit)) i r (r - i) ⌝ }
 {
     let c = s[i];
+    let end = above_end(s, ranks, from, c);
     let mut j = from;
-    while 16 <= s.len() - j {
+    while 16 <= end - j {
         if !above_block(s, ranks, j, c) {
             return j;
         }

@@ -4,6 +4,7 @@ use entries::are_lengths;
 use entries::same_entries;
 use entries::steps;
 use leaps::above_block;
+use leaps::above_end;
 use leaps::agree_block;
 use leaps::next_gap;
 use prefix_table::Mark;
@@ -26,8 +27,9 @@ fn test_above(s: &[u8], ranks: &[u8], table: &[u16], i: usize, from: usize) -> u
     ensures { λ r. ⌜ (from ≤ r) × Testing (ranked (now (ranks .entry)) (now (s .entry))) (now (table .entry)) i r (r - i) ⌝ }
 {
     let c = s[i];
+    let end = above_end(s, ranks, from, c);
     let mut j = from;
-    while 16 <= s.len() - j {
+    while 16 <= end - j {
         if !above_block(s, ranks, j, c) {
             return j;
         }

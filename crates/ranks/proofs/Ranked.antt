@@ -2,7 +2,7 @@
 use mathlib.Core.List.{List, [], _∷_, _++_, append-nil}
 use mathlib.Core.Logic.{_⊎_, inl, inr}
 use mathlib.Core.Path.{_≡_, refl, sym, ap, _∙_}
-use Prim.Native.Nat.{ℕ, zero, suc, _+_, _≤_, _<_}
+use Prim.Native.Nat.{ℕ, zero, suc, _+_, _-_, _%_, _≤_, _<_}
 use native.Mathlib.Omega.{arith}
 use lib.ListN.{length, take, drop, getD, length-take, drop-of-length-le}
 use lib.Dec.{ltb}
@@ -10,7 +10,7 @@ use lib.Seq.{getD-take, ext-getD}
 use borrow.Author.Tests.{ltb-true, ltb-false}
 use Rattle.words.specs.Edit.{edited}
 use Rattle.words.proofs.Bounded.{length-table, getD-table, le-cases}
-use Rattle.rows.proofs.Fill.{Right, Lists}
+use Rattle.rows.proofs.Fill.{Right, Lists, right-one, right-join}
 use Rattle.rows.specs.Row.{written}
 use Rattle.ranks.specs.Ranks.{Bytes, Order, byteOrder, rank, ranked}
 use Rattle.ranks.specs.Inner.{Ranks, Below}
@@ -108,6 +108,16 @@ bytes-take k s h i l =
 pub byte-order-lists : Lists byteOrder (λ b. b) 256
 unfolding byteOrder
 byte-order-lists = record { size = length-table (λ b. b) 256; entry = λ k h. getD-table (λ b. b) 256 k 0 h }
+
+-- ranks that begin as byte order and are each one more than the one before go on as it does
+pub rising-on : (o : List ℕ) (i m : ℕ) → 0 < i → i + m ≤ 256 → Right (λ b. b) o 0 i → Right (λ b. (getD o (b - 1) 0 + 1) % 256) o i (i + m)
+    → Right (λ b. b) o 0 (i + m)
+rising-on o i zero p l h r = λ k a b. h k a (omega arith)
+rising-on o i (suc m) p l h r =
+    let low : Right (λ b. b) o 0 (i + m) = rising-on o i m p (omega arith) h (λ k a b. r k a (omega arith)) in
+    let x = r (i + m) (omega arith) (omega arith) in
+    let y = low (i + m - 1) (omega arith) (omega arith) in
+    right-join _ o 0 (i + m) (i + suc m) low (right-one _ o (i + m) (i + suc m) (omega arith) (omega (arith, x, y)))
 
 pub byte-order-is : (o : List ℕ) → length o ≡ 256 → Right (λ b. b) o 0 256 → o ≡ byteOrder
 byte-order-is o e h =

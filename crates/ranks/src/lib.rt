@@ -1,9 +1,10 @@
 // Symbol orders: the test of refusal 13, byte order, and which of two bytes has the smaller rank. The crates above hand ranks down, those of an
 // order or none, which stands for byte order; so a byte is looked up only in another order, and only where two bytes differ.
+use std::num::wrapping_add_u8;
 ghost use mathlib.Core.Bool.{true};
 ghost use mathlib.Core.Path.{_≡_};
-ghost use Prim.Native.Nat.{_≤_, _<_, _+_};
-ghost use lib.ListN.{length, take};
+ghost use Prim.Native.Nat.{_≤_, _<_, _+_, _-_, _%_};
+ghost use lib.ListN.{length, take, getD};
 ghost use Rattle.rows.specs.Filled.{Right};
 ghost use Rattle.rows.specs.Row.{written};
 ghost use Rattle.ranks.specs.Ranks.{Order, isOrder, byteOrder, rank, ranked};
@@ -36,36 +37,45 @@ pub fn below(ranks: &[u8], x: u8, y: u8) -> bool
     requires { ⌜ Ranks (now ranks) ⌝ }
     ensures { λ r. ⌜ Below (now (ranks .entry)) x y r ⌝ }
 {
-    rank_of(ranks, x) < rank_of(ranks, y)
+    let left = wide(x);
+    let right = wide(y);
+    if ranks.len() != 0 {
+        return ranks[left] < ranks[right];
+    }
+    left < right
 }
 
-// Whether the sixteen ranks from i on are those of byte order.
-fn plain_block(order: &[u8], i: usize) -> bool
-    requires { ⌜ (i + 16 ≤ length (now order)) × (length (now order) ≤ 256) ⌝ }
-    ensures { λ r. ⌜ (r ≡ true → Right (λ b. b) (now (order .entry)) i (i + 16)) ⌝ }
+// Whether each of the sixteen ranks from i on is one more than the rank before it, and so needs no list to be compared with.
+fn rising_block(order: &[u8], i: usize) -> bool
+    requires { ⌜ (0 < i) × (i + 16 ≤ length (now order)) ⌝ }
+    ensures { λ r. ⌜ (r ≡ true → Right (λ b. (getD (now (order .entry)) (b - 1) 0 + 1) % 256) (now (order .entry)) i (i + 16)) ⌝ }
 {
     let mut all = true;
     for k in 0..16 {
         let x = order[i + k];
-        let y = (i + k) as u8;
+        let y = wrapping_add_u8(order[i + k - 1], 1);
         all = all & (x == y);
     }
     all
 }
 
-// Whether 256 ranks are byte order, by steps of sixteen. Where it says yes they are an order, and need no further test.
+// Whether 256 ranks are byte order: they begin with 0, and each next one is one more, by steps of sixteen. Where it says yes they are an order,
+// and need no further test.
 fn is_byte_order(order: &[u8]) -> bool
     requires { ⌜ length (now order) ≡ 256 ⌝ }
     ensures { λ r. ⌜ (r ≡ true → now (order .entry) ≡ byteOrder) ⌝ }
 {
-    let mut i = 0;
-    while i < ORDER {
-        if !plain_block(order, i) {
+    if order[0] != 0 {
+        return false;
+    }
+    let mut i = 1;
+    while i < 240 {
+        if !rising_block(order, i) {
             return false;
         }
         i += 16;
     }
-    true
+    rising_block(order, 240)
 }
 
 // Whether 256 ranks hold each of 0 to 255 once: none stands twice.
@@ -120,14 +130,17 @@ pub fn test_order(order: &[u8]) -> Tested
     }
 }
 
-// Writes byte order to the front of a row.
+// Writes byte order to the front of a row. Each rank is made of its half, which is read back from the row: this compiles to a loop, where a
+// counter would be written out of 256 constant bytes, and read-only memory is short.
 pub fn fill_byte_order(order: &mut [u8])
     requires { ⌜ 256 ≤ length (now order) ⌝ }
     ensures { λ _. ⌜ now (order .exit) ≡ written byteOrder (now (order .entry)) ⌝ }
 {
-    let mut b = 0;
+    order[0] = 0;
+    let mut b = 1;
     while b < ORDER {
-        order[b] = b as u8;
+        let half = wide(order[b / 2]);
+        order[b] = (2 * half + b % 2) as u8;
         b += 1;
     }
 }

@@ -1,8 +1,9 @@
 -- What the functions between the table and its pattern know: entries from a place on, two words beside each other, an entry found, entries tested.
 use mathlib.Core.Bool.{Bool, true, false}
 use mathlib.Core.List.{List}
+use mathlib.Core.Logic.{_⊎_}
 use mathlib.Core.Path.{_≡_}
-use Prim.Native.Nat.{ℕ, _-_, _≤_, _<_}
+use Prim.Native.Nat.{ℕ, _+_, _-_, _≤_, _<_}
 use lib.ListN.{length, take, drop, getD}
 use Rattle.words.specs.Order.{less}
 use Rattle.words.specs.Tables.{longestAt}
@@ -13,6 +14,14 @@ use Rattle.memo.specs.Memo.{Alike, Memo}
 pub record EntriesFrom (s table : List ℕ) (i : ℕ) : Type 0 where
   pub room : length s ≤ length table
   pub right : Right (longestAt s) table i (length s)
+
+-- Two words to be compared, from i up to j and the y bytes from there on: both stand in the pattern, and the shorter has `len` bytes.
+pub record Compares (s : List ℕ) (i j y len : ℕ) : Type 0 where
+  pub follows : i < j
+  pub fits : j + y ≤ length s
+  pub first : len ≤ j - i
+  pub second : len ≤ y
+  pub shorter : (j - i ≤ len) ⊎ (y ≤ len)
 
 -- The word from i up to j beside the next one, of y bytes: how far they agree, and whether it is smaller.
 pub record Beside (s : List ℕ) (i j y e : ℕ) (up : Bool) : Type 0 where

@@ -36,9 +36,9 @@ filled-start f n r = record { size = refl; inside = r; before = λ k a. refl; pa
 pub filled-none : (f : ℕ → ℕ) (n : ℕ) (d : List ℕ) (i : ℕ) → Filled f n d d i i
 filled-none f n d i = filled-start f n (right-none f d i)
 
--- a row that was filled from a place on, and then from an earlier one
-pub filled-on : {f : ℕ → ℕ} {n : ℕ} {d e row : List ℕ} {from from′ to : ℕ} → Filled f n d e from to → Filled f n e row from′ to → from′ ≤ from
-    → Filled f n d row from′ to
+-- a row that was filled from a place on, and then from there or an earlier one
+pub filled-on : {f : ℕ → ℕ} {n : ℕ} {d e row : List ℕ} {from from′ to to′ : ℕ} → Filled f n d e from to → Filled f n e row from′ to′ → from′ ≤ from
+    → Filled f n d row from′ to′
 filled-on g g′ h =
     record {
       size = g′ .size ∙ g .size;

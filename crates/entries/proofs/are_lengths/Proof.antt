@@ -13,16 +13,13 @@ use Rattle.entries.proofs.are_lengths.Reads as reads
 use Rattle.entries.proofs.are_lengths.Lts as lts
 
 abbrev Inv-loop : tie.InvT-loop
-Inv-loop table i at first all₀ k₀ all k = (k ≤ 16) × (all ≡ true → Right (λ x. x + 1 - i) table at (at + k))
+Inv-loop table i at size all₀ k₀ all k = (k ≤ 16) × (all ≡ true → Right (λ x. x + 1 - i) table at (at + k))
 
 abbrev μ-loop : tie.MeasureT-loop
-μ-loop table i at first all₀ k₀ all k = 16 - k
+μ-loop table i at size all₀ k₀ all k = 16 - k
 
-add-first : tie.Need-add-first Inv-loop μ-loop
-add-first c = search needs
-
-sub-first : tie.Need-sub-first Inv-loop μ-loop
-sub-first c = search needs
+sub-size : tie.Need-sub-size Inv-loop μ-loop
+sub-size c = search needs
 
 returns : tie.Need-returns Inv-loop μ-loop
 returns c = λ e. absurd (true-false e refl)
@@ -44,6 +41,9 @@ shared-slice-read-x c = search needs
 
 add-y : tie.Need-add-y Inv-loop μ-loop
 add-y c = search needs
+
+add-y-2 : tie.Need-add-y-2 Inv-loop μ-loop
+add-y-2 c = search needs
 
 cast-y : tie.Need-cast-y Inv-loop μ-loop
 cast-y c = search needs
@@ -72,14 +72,14 @@ are-lengths-spec =
     (tie.spec
     Inv-loop
     μ-loop
-    add-first
-    sub-first
+    sub-size
     returns
     loop-holds
     add-x
     mul-x
     shared-slice-read-x
     add-y
+    add-y-2
     cast-y
     add-k
     loop-less

@@ -1,6 +1,6 @@
 -- `leaps::above_ranks` meets its contract: where the ranks of all bytes before place u passed, they are above d.
 use mathlib.Core.Bool.{true}
-use mathlib.Core.Path.{_≡_}
+use mathlib.Core.Path.{_≡_, refl}
 use Prim.Native.Nat.{_+_, _-_, _≤_}
 use Rattle.ranks.specs.Ranks.{ranked}
 use Rattle.ranks.proofs.Ranked.{entry-ranked}
@@ -34,11 +34,8 @@ shared-slice-read-wide c = search needs
 wide-requires : tie.Need-wide-requires Inv-loop μ-loop
 wide-requires c κs = search needs
 
-shared-slice-read-wide-2 : tie.Need-shared-slice-read-wide-2 Inv-loop μ-loop
-shared-slice-read-wide-2 c = search needs
-
-wide-requires-2 : tie.Need-wide-requires-2 Inv-loop μ-loop
-wide-requires-2 c κs = search needs
+shared-slice-read-x : tie.Need-shared-slice-read-x Inv-loop μ-loop
+shared-slice-read-x c = search needs
 
 add-u : tie.Need-add-u Inv-loop μ-loop
 add-u c = search needs
@@ -48,11 +45,11 @@ loop-less c = search needs
 
 loop-again : tie.Need-loop-again Inv-loop μ-loop
 loop-again c =
-    let l = c .before .before .before .before .before in
+    let l = c .before .before .before .before in
     let a = l .before .before .before .args in
-    let w = c .before .before .wide in
+    let w = c .before .wide in
     let e : a .j + (l .loop .u + 1) ≡ a .j + l .loop .u + 1 = omega arith in
-    let x = entry-ranked (a .ranks .now) (a .s .now) (a .j + l .loop .u) (w .result) (c .wide2 .result) (l .before .before .before .pre .0) (omega (arith, l .before .before .before .pre .1)) (w .ensures .0) (w .ensures .1) (c .wide2 .ensures .0) in
+    let x = entry-ranked (a .ranks .now) (a .s .now) (a .j + l .loop .u) (w .result) _ (l .before .before .before .pre .0) (omega (arith, l .before .before .before .pre .1)) (w .ensures .0) (w .ensures .1) refl in
     (search needs, λ t. rw e (above-test (l .loop .all) (l .loop .inv .1) (rw (← x) t)))
 
 returns : tie.Need-returns Inv-loop μ-loop
@@ -71,8 +68,7 @@ above-ranks-spec =
     add-wide
     shared-slice-read-wide
     wide-requires
-    shared-slice-read-wide-2
-    wide-requires-2
+    shared-slice-read-x
     add-u
     loop-less
     loop-again

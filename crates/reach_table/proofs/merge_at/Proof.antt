@@ -5,7 +5,6 @@ use Rattle.ranks.specs.Ranks.{ranked}
 use Rattle.ranks.proofs.Ranked.{length-ranked}
 use Rattle.leaps.proofs.Alike.{not-true, not-false}
 use Rattle.reach_table.proofs.Reach.{Grown}
-use Rattle.memo.proofs.Together.{alike-none}
 use Rattle.reach_table.proofs.Reach.{grown-start, grown-turn, grown-stop, grown-end, next-some, next-fits}
 use Prim.Native.Nat.{_-_}
 use borrow.Author.Needs.{needs}
@@ -14,7 +13,7 @@ use Rattle.reach_table.proofs.merge_at.Statement.{statement}
 use Rattle.reach_table.proofs.merge_at.Tie as tie
 use Rattle.reach_table.proofs.merge_at.Reads as reads
 use Rattle.reach_table.proofs.merge_at.Lts as lts
-use Rattle.reach_table.proofs.beside.Reads as beside-reads
+use Rattle.reach_table.proofs.beside_anew.Reads as beside-anew-reads
 use Rattle.memo.proofs.entry.Reads as entry-reads
 
 abbrev Inv-loop : tie.InvT-loop
@@ -35,15 +34,15 @@ loop-holds c =
 entry-requires : tie.Need-entry-requires Inv-loop μ-loop
 entry-requires c κs = search needs
 
-beside-requires : tie.Need-beside-requires Inv-loop μ-loop
-beside-requires c κs =
+beside-anew-requires : tie.Need-beside-anew-requires Inv-loop μ-loop
+beside-anew-requires c κs =
     let l = c .before .before in
     let a = c .before .before .before .before .before .before in
     let e = l .loop .inv .1 in
     let h = rw (← e) at (c .before .loop-test .taken) in
     let y = c .entry in
     let next = y .ensures ∙ a .pre .2 .right (l .loop .j) (omega (arith, l .loop .inv .0 .some)) h in
-    (a .pre .0, l .loop .inv .0 .some, next-some (l .loop .inv .0) (y .result) next h, rw e at (next-fits (l .loop .inv .0) (y .result) next h), alike-none (a .args .i) (l .loop .j) (l .loop .inv .0 .fits))
+    (a .pre .0, l .loop .inv .0 .some, next-some (l .loop .inv .0) (y .result) next h, rw e at (next-fits (l .loop .inv .0) (y .result) next h))
 
 sub-t11 : tie.Need-sub-t11 Inv-loop μ-loop
 sub-t11 c = search needs
@@ -56,7 +55,7 @@ returns c =
     let h = rw (← e) at (c .before .before .before .before .loop-test .taken) in
     let y = c .before .before .before .entry in
     let next = y .ensures ∙ a .pre .2 .right (l .loop .j) (omega (arith, l .loop .inv .0 .some)) h in
-    let w = c .before .before .beside in
+    let w = c .before .before .beside-anew in
     grown-stop (l .loop .inv .0) (y .result) next h (w .ensures .less) (not-true (w .result .up) (c .if1 .taken))
 
 add-j-2 : tie.Need-add-j-2 Inv-loop μ-loop
@@ -87,7 +86,7 @@ loop-again c =
     let h = rw (← e) at (c .before .before .before .before .loop-test .taken) in
     let y = c .before .before .before .entry in
     let next = y .ensures ∙ a .pre .2 .right (l .loop .j) (omega (arith, l .loop .inv .0 .some)) h in
-    let w = c .before .before .beside in
+    let w = c .before .before .beside-anew in
     (grown-turn (l .loop .inv .0) (y .result) next h (w .ensures .less) (not-false (w .result .up) (c .if1 .left)), e)
 
 sub-t12 : tie.Need-sub-t12 Inv-loop μ-loop
@@ -105,7 +104,7 @@ merge-at-spec =
     add-j
     loop-holds
     entry-requires
-    beside-requires
+    beside-anew-requires
     sub-t11
     returns
     add-j-2
