@@ -2,7 +2,8 @@
 use show::calls;
 use show::calls::OLD;
 
-// Each call of `lyndon`, `lyndon_words` and `lyndon_parts` that has refusal 1. Both questions ask for the groups of the whole pattern.
+// Each call of `lyndon`, `lyndon_words`, `lyndon_test`, `lyndon_rotation` and `lyndon_parts` that has refusal 1. Both questions ask for the
+// groups of the whole pattern.
 fn each_call(pattern: &[u8], order: &[u8], table: &mut [u16]) {
     calls::factor(pattern, order, 4);
     calls::lyndon_array(pattern, order, 16385);

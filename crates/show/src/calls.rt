@@ -100,7 +100,7 @@ pub fn longest_word_place(pattern: &[u8], order: &[u8]) {
 
 pub fn is_lyndon(word: &[u8], order: &[u8]) {
     given(b"is_lyndon", word, order);
-    crate::verdict(lyndon_words::is_lyndon(word, order));
+    crate::verdict(lyndon_test::is_lyndon(word, order));
 }
 
 pub fn compare(first: &[u8], second: &[u8], order: &[u8]) {
@@ -114,7 +114,7 @@ pub fn compare(first: &[u8], second: &[u8], order: &[u8]) {
 
 pub fn least_rotation(pattern: &[u8], order: &[u8]) {
     given(b"least_rotation", pattern, order);
-    crate::position(lyndon_words::least_rotation(pattern, order));
+    crate::position(lyndon_rotation::least_rotation(pattern, order));
 }
 
 pub fn lyndon_tree(word: &[u8], order: &[u8], room: usize) {
@@ -122,7 +122,7 @@ pub fn lyndon_tree(word: &[u8], order: &[u8], room: usize) {
     let mut space = [OLD; SPACE];
     let n = least(room, SPACE);
     let row = &mut space[0..n];
-    let a = lyndon_words::lyndon_tree(word, order, row);
+    let a = lyndon_tree::lyndon_tree(word, order, row);
     crate::filled(a, row);
 }
 

@@ -1,14 +1,15 @@
--- `lyndon_words::is_lyndon` meets its contract: a nonempty string is a Lyndon word exactly when its first factor is the whole of it.
+-- `lyndon_test::is_lyndon` meets its contract: a nonempty string is a Lyndon word exactly when its first factor is the whole of it.
 use lib.Seq.{length-take-le}
 use native.Mathlib.Omega.{arith}
 use borrow.Author.Tests.{not-true, not-false}
 use lib.ListN.{take}
-use Rattle.lyndon_words.proofs.Simple.{told-not-order, told-long, told-yes, empty-not-lyndon, whole-lyndon}
+use Rattle.lyndon_test.proofs.Told.{told-not-order, told-long, told-yes}
+use Rattle.lyndon_test.proofs.Whole.{empty-not-lyndon, whole-lyndon}
 use borrow.Author.Needs.{needs}
-use Rattle.lyndon_words.proofs.is_lyndon.Statement.{statement}
-use Rattle.lyndon_words.proofs.is_lyndon.Tie as tie
-use Rattle.lyndon_words.proofs.is_lyndon.Reads as reads
-use Rattle.lyndon_words.proofs.is_lyndon.Lts as lts
+use Rattle.lyndon_test.proofs.is_lyndon.Statement.{statement}
+use Rattle.lyndon_test.proofs.is_lyndon.Tie as tie
+use Rattle.lyndon_test.proofs.is_lyndon.Reads as reads
+use Rattle.lyndon_test.proofs.is_lyndon.Lts as lts
 use Rattle.ranks.proofs.test_order.Reads as test-order-reads
 use Rattle.scan.proofs.next_group.Reads as next-group-reads
 

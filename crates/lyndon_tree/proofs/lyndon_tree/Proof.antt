@@ -1,16 +1,17 @@
--- `lyndon_words::lyndon_tree` meets its contract: each way out is the outcome of the first refusal that holds, or of none.
+-- `lyndon_tree::lyndon_tree` meets its contract: each way out is the outcome of the first refusal that holds, or of none.
 use lib.Seq.{length-take-le}
 use native.Mathlib.Omega.{arith}
 use borrow.Author.Tests.{not-true, not-false}
 use Prim.Native.Nat.{_*_, _-_}
 use lib.ListN.{length, take}
 use mathlib.Core.Path.{refl}
-use Rattle.lyndon_words.proofs.Simple.{empty-not-lyndon, part-not-lyndon, all-lyndon, tree-not-order, tree-long, tree-not-lyndon, tree-short, tree-done, tree-word}
+use Rattle.lyndon_test.proofs.Whole.{empty-not-lyndon, part-not-lyndon, all-lyndon}
+use Rattle.lyndon_tree.proofs.Listed.{tree-not-order, tree-long, tree-not-lyndon, tree-short, tree-done, tree-word}
 use borrow.Author.Needs.{needs}
-use Rattle.lyndon_words.proofs.lyndon_tree.Statement.{statement}
-use Rattle.lyndon_words.proofs.lyndon_tree.Tie as tie
-use Rattle.lyndon_words.proofs.lyndon_tree.Reads as reads
-use Rattle.lyndon_words.proofs.lyndon_tree.Lts as lts
+use Rattle.lyndon_tree.proofs.lyndon_tree.Statement.{statement}
+use Rattle.lyndon_tree.proofs.lyndon_tree.Tie as tie
+use Rattle.lyndon_tree.proofs.lyndon_tree.Reads as reads
+use Rattle.lyndon_tree.proofs.lyndon_tree.Lts as lts
 use Rattle.ranks.proofs.test_order.Reads as test-order-reads
 use Rattle.refusals.proofs.refused.Reads as refused-reads
 use Rattle.scan.proofs.next_group.Reads as next-group-reads

@@ -1,14 +1,14 @@
--- `lyndon_words::least_rotation` meets its contract: what `least_start` tells of the pattern, where neither the order nor the pattern is refused.
+-- `lyndon_rotation::least_rotation` meets its contract: what `least_start` tells of the pattern, where neither the order nor the pattern is refused.
 use lib.Seq.{length-take-le}
 use native.Mathlib.Omega.{arith}
 use borrow.Author.Tests.{not-true, not-false}
 use mathlib.Core.Path.{sym, _∙_}
-use Rattle.lyndon_words.proofs.Simple.{rotation-not-order, rotation-long, rotation-repeated, rotation-found}
+use Rattle.lyndon_rotation.proofs.Found.{rotation-not-order, rotation-long, rotation-repeated, rotation-found}
 use borrow.Author.Needs.{needs}
-use Rattle.lyndon_words.proofs.least_rotation.Statement.{statement}
-use Rattle.lyndon_words.proofs.least_rotation.Tie as tie
-use Rattle.lyndon_words.proofs.least_rotation.Reads as reads
-use Rattle.lyndon_words.proofs.least_rotation.Lts as lts
+use Rattle.lyndon_rotation.proofs.least_rotation.Statement.{statement}
+use Rattle.lyndon_rotation.proofs.least_rotation.Tie as tie
+use Rattle.lyndon_rotation.proofs.least_rotation.Reads as reads
+use Rattle.lyndon_rotation.proofs.least_rotation.Lts as lts
 use Rattle.ranks.proofs.test_order.Reads as test-order-reads
 use Rattle.rotation.proofs.least_start.Reads as least-start-reads
 
