@@ -63,7 +63,7 @@ pub fn realise_array(wanted: &[u16], order: &[u8], room: usize) {
     let mut space = [BLANK; BUFFER];
     let n = least(room, BUFFER);
     let buffer = &mut space[0..n];
-    let a = lyndon::realise_array(wanted, order, buffer);
+    let a = lyndon_wanted::realise_array(wanted, order, buffer);
     realised(a, order, buffer);
 }
 
