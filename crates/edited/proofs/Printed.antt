@@ -13,7 +13,7 @@ use Rattle.edit.specs.declared.Answer.the-variants.{Done, Refused}
 use Rattle.edit.specs.declared.Counts.{Counts}
 use Rattle.edit_file.proofs.Only.{edit-only}
 use Rattle.edit_file.specs.EditFile.{EditFile}
-use Rattle.lyndon.specs.Calls.{ArrayMade, LastFactorsMade}
+use Rattle.lyndon_tables.specs.Calls.{ArrayMade, LastFactorsMade}
 use Rattle.edit_refusal.proofs.Passed.{passed-shape}
 use Rattle.edit_refusal.proofs.Refused.{Shaped}
 use Rattle.ranks.specs.Ranks.{Bytes, isOrder, byteOrder, ranked}

@@ -6,12 +6,12 @@ use block::read_block;
 use block::write_block;
 use lyndon::byte_order;
 use lyndon::factor;
-use lyndon::last_factors;
 use lyndon_compare::Comparison;
 use lyndon_compare::compare;
 use lyndon_parts::factor_prefix;
 use lyndon_parts::factor_suffix;
 use lyndon_rotation::least_rotation;
+use lyndon_tables::last_factors;
 use lyndon_test::is_lyndon;
 use lyndon_text::write_listing;
 use lyndon_wanted::realise_array;
@@ -20,7 +20,8 @@ use lyndon_words::longest_words;
 use refusals::INTERFACE;
 ghost use mathlib.Core.Path.{_≡_};
 ghost use Rattle.refusals.specs.Interface.{interface};
-ghost use Rattle.lyndon.specs.Calls.{Factored, ArrayMade, LastFactorsMade, ByteOrderWritten};
+ghost use Rattle.lyndon.specs.Calls.{Factored, ByteOrderWritten};
+ghost use Rattle.lyndon_tables.specs.Calls.{ArrayMade, LastFactorsMade};
 ghost use Rattle.lyndon_wanted.specs.Calls.{ArrayRealised};
 ghost use Rattle.lyndon_words.specs.Calls.{StartsListed, wordPlace};
 ghost use Rattle.lyndon_test.specs.Calls.{LyndonTold};
@@ -71,7 +72,7 @@ pub extern "C" fn lyndon_array(
 ) -> u8
     ensures { λ r. ⌜ ArrayMade (now (pattern .entry)) (now (order .entry)) (now (table .entry)) (now (table .exit)) (record { refusal = r; count = now (count .exit) }) ⌝ }
 {
-    let answer = lyndon::lyndon_array(pattern, order, table);
+    let answer = lyndon_tables::lyndon_array(pattern, order, table);
     *count = answer.count;
     answer.refusal
 }

@@ -43,7 +43,7 @@ pub fn lyndon_array(pattern: &[u8], order: &[u8], room: usize) {
     let mut space = [OLD; SPACE];
     let n = least(room, SPACE);
     let row = &mut space[0..n];
-    let a = lyndon::lyndon_array(pattern, order, row);
+    let a = lyndon_tables::lyndon_array(pattern, order, row);
     crate::filled(a, row);
 }
 
@@ -52,7 +52,7 @@ pub fn last_factors(pattern: &[u8], order: &[u8], room: usize) {
     let mut space = [OLD; SPACE];
     let n = least(room, SPACE);
     let row = &mut space[0..n];
-    let a = lyndon::last_factors(pattern, order, row);
+    let a = lyndon_tables::last_factors(pattern, order, row);
     crate::filled(a, row);
 }
 
@@ -73,7 +73,7 @@ fn realised(a: Filled, order: &[u8], buffer: &[u8]) {
     let mut space = [OLD; SPACE];
     let n = least(count, SPACE);
     let array = &mut space[0..n];
-    lyndon::lyndon_array(&buffer[0..count], order, array);
+    lyndon_tables::lyndon_array(&buffer[0..count], order, array);
     crate::realised(a, array, &buffer[count..]);
 }
 
