@@ -1,14 +1,14 @@
--- `text::write_text` meets its contract: the header stands at the front, and the lines of all groups behind it.
+-- `text_lines::write_text` meets its contract: the header stands at the front, and the lines of all groups behind it.
 use Rattle.text.proofs.Lengths.{length-header}
-use Rattle.text.proofs.Lines.{listing-length, listing-put}
+use Rattle.text_lines.proofs.Lines.{listing-length, listing-put}
 use borrow.Author.Needs.{needs}
 use native.Mathlib.Omega.{arith}
-use Rattle.text.proofs.write_text.Statement.{statement}
-use Rattle.text.proofs.write_text.Tie as tie
-use Rattle.text.proofs.write_text.Reads as reads
-use Rattle.text.proofs.write_text.Lts as lts
+use Rattle.text_lines.proofs.write_text.Statement.{statement}
+use Rattle.text_lines.proofs.write_text.Tie as tie
+use Rattle.text_lines.proofs.write_text.Reads as reads
+use Rattle.text_lines.proofs.write_text.Lts as lts
 use Rattle.text.proofs.write_header.Reads as write-header-reads
-use Rattle.text.proofs.write_lines.Reads as write-lines-reads
+use Rattle.text_lines.proofs.write_lines.Reads as write-lines-reads
 
 write-header-requires : tie.Need-write-header-requires
 write-header-requires c κs =

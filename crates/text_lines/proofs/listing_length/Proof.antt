@@ -1,13 +1,13 @@
--- `text::listing_length` meets its contract: the header and the lines.
-use Rattle.text.proofs.Lengths.{suffix-most}
-use Rattle.text.proofs.Lines.{listing-length}
+-- `text_lines::listing_length` meets its contract: the header and the lines.
+use Rattle.text_lines.proofs.Most.{suffix-most}
+use Rattle.text_lines.proofs.Lines.{listing-length}
 use borrow.Author.Needs.{needs}
 use native.Mathlib.Omega.{arith}
-use Rattle.text.proofs.listing_length.Statement.{statement}
-use Rattle.text.proofs.listing_length.Tie as tie
-use Rattle.text.proofs.listing_length.Reads as reads
-use Rattle.text.proofs.listing_length.Lts as lts
-use Rattle.text.proofs.lines_length.Reads as lines-length-reads
+use Rattle.text_lines.proofs.listing_length.Statement.{statement}
+use Rattle.text_lines.proofs.listing_length.Tie as tie
+use Rattle.text_lines.proofs.listing_length.Reads as reads
+use Rattle.text_lines.proofs.listing_length.Lts as lts
+use Rattle.text_lines.proofs.lines_length.Reads as lines-length-reads
 
 lines-length-requires : tie.Need-lines-length-requires
 lines-length-requires c κs = search needs

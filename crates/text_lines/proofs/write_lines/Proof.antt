@@ -1,4 +1,4 @@
--- `text::write_lines` meets its contract: what is still to be written are the lines of the groups that are left.
+-- `text_lines::write_lines` meets its contract: what is still to be written are the lines of the groups that are left.
 use mathlib.Core.Path.{_≡_, ap}
 use Prim.Native.Nat.{_≤_, _-_}
 use lib.ListN.{length}
@@ -11,16 +11,16 @@ use Rattle.rows.proofs.Puts.{Putting, putting-none, putting-all}
 use Rattle.scan.specs.Group.{GroupFrom}
 use Rattle.scan.proofs.Next.{suffix-end, group-long}
 use Rattle.scan.proofs.Pass.{length-fits, from-fits}
 use Rattle.text.specs.Listing.{lines}
-use Rattle.text.proofs.Lines.{line-room, line-turn}
+use Rattle.text_lines.proofs.Lines.{line-room, line-turn}
 use borrow.Author.Needs.{needs}
-use Rattle.text.proofs.write_lines.Statement.{statement}
-use Rattle.text.proofs.write_lines.Tie as tie
-use Rattle.text.proofs.write_lines.Reads as reads
-use Rattle.text.proofs.write_lines.Lts as lts
+use Rattle.text_lines.proofs.write_lines.Statement.{statement}
+use Rattle.text_lines.proofs.write_lines.Tie as tie
+use Rattle.text_lines.proofs.write_lines.Reads as reads
+use Rattle.text_lines.proofs.write_lines.Lts as lts
 use Rattle.scan.proofs.group_from.Reads as group-from-reads
 use Rattle.scan.proofs.shared_length.Reads as shared-length-reads
 use Rattle.text.proofs.write_line.Reads as write-line-reads
 
 abbrev Inv-loop : tie.InvT-loop
 Inv-loop s ranks from buffer₀ at next₀ start₀ g₀ buffer next start g =

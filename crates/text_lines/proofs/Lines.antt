@@ -1,14 +1,16 @@
--- A line as its writer makes it, field by field, the lines of a pass over the groups, and the listing, with a buffer length that always suffices.
+-- The lines of a pass over the groups, turn by turn, and the listing, with a buffer length that always suffices.
 use mathlib.Core.List.{List, [], _++_}
 use mathlib.Core.Logic.{_⊎_, inl, inr}
 use mathlib.Core.Path.{_≡_, refl, sym, ap, _∙_}
 use Prim.Native.Nat.{ℕ, _+_, _-_, _*_, _≤_, _<_}
 use native.Mathlib.Omega.{arith}
-use lib.ListN.{length, take, drop, set, length-append, length-drop}
+use lib.ListN.{length, take, drop, length-append, length-drop}
 use lib.Seq.{length-take-le}
 use Rattle.ranks.specs.Ranks.{Bytes, byteOrder, ranked}
 use Rattle.ranks.proofs.Ranked.{none-ranked, byte-ranked}
-use Rattle.rows.proofs.Wrote.{Wrote, wrote-part, wrote-room, set-written}
+use Rattle.rows.specs.Written.{Room, Puts}
+use Rattle.rows.proofs.Puts.{puts-then}
+use Rattle.rows.proofs.Wrote.{Wrote, wrote-part, wrote-room}
 use Rattle.refusals.specs.Refusals.{maxPattern}
 use Rattle.scan.specs.Group.{NextGroup, GroupFrom}
 use Rattle.scan.proofs.Next.{groups-start, suffix-end}
@@ -18,39 +20,10 @@ use Rattle.words.specs.Tables.{groups, suffixGroups}
 use Rattle.words.proofs.Bounded.{le-or-lt}
 use Rattle.words.proofs.Groups.{group}
 use Rattle.words.proofs.Shared.{shared-right}
-use Rattle.decimal.specs.Decimal.{codes, decimal}
-use Rattle.text.specs.Hexadecimal.{hexadecimal}
 use Rattle.text.specs.Inner.{maxListing}
-use Rattle.text.specs.Listing.{header, lineEnd, field, lastField, sharedColumn, line, lines, listingText, listingBy, refusalText}
-use Rattle.rows.specs.Written.{Room, Puts}
-use Rattle.decimal.proofs.Decimal.{count-least, length-decimal}
-use Rattle.text.proofs.Lengths.{length-header, length-last, line-parts, suffix-most}
-use Rattle.rows.proofs.Puts.{puts-then}
-
-pub last-put : (number : ℕ) (d : List ℕ) (i : ℕ) {b₁ b₂ : List ℕ} {n₁ n₂ : ℕ} → Room (lastField number) i d
-    → Puts (decimal number) (i + 1) (set d i 44) b₁ n₁ → Puts lineEnd n₁ b₁ b₂ n₂ → Puts (lastField number) i d b₂ n₂
-last-put number d i h p₁ p₂ =
-    let n = length-last number in
-    let comma : Puts (codes ",") i d (set d i 44) (i + 1) = record { next = refl; leaves = set-written d i 44 (omega arith) } in
-    let m = length-append (codes ",") (decimal number) in
-    puts-then (puts-then comma p₁ (omega arith)) p₂ (omega (arith, length-decimal number))
-
-pub line-put : (start power : ℕ) (word : List ℕ) (column : ℕ) (d : List ℕ) (i : ℕ) {b₁ b₂ b₃ b₄ b₅ : List ℕ} {n₁ n₂ n₃ n₄ n₅ : ℕ}
-    → Room (line start (length word) power word column) i d → Puts (field start) i d b₁ n₁ → Puts (field (length word)) n₁ b₁ b₂ n₂
-    → Puts (field power) n₂ b₂ b₃ n₃ → Puts (hexadecimal word) n₃ b₃ b₄ n₄ → Puts (lastField column) n₄ b₄ b₅ n₅
-    → Puts (line start (length word) power word column) i d b₅ n₅
-unfolding line
-line-put start power word column d i h p₁ p₂ p₃ p₄ p₅ =
-    let n = line-parts start power word column in
-    let two = field start ++ field (length word) in
-    let three = two ++ field power in
-    let m₂ = length-append (field start) (field (length word)) in
-    let m₃ = length-append two (field power) in
-    let m₄ = length-append three (hexadecimal word) in
-    let q₂ = puts-then p₁ p₂ (omega arith) in
-    let q₃ = puts-then q₂ p₃ (omega arith) in
-    let q₄ = puts-then q₃ p₄ (omega arith) in
-    puts-then q₄ p₅ (omega arith)
+use Rattle.text.specs.Listing.{header, sharedColumn, line, lines, listingText, listingBy}
+use Rattle.text.proofs.Lengths.{length-header}
+use Rattle.text_lines.proofs.Most.{suffix-most}
 
 -- the part of s from i to j
 abbrev part : List ℕ → ℕ → ℕ → List ℕ
@@ -129,17 +102,3 @@ listing-bytes s h = ap (λ t. header ++ lines s (groups t)) (byte-ranked s h)
 
 pub listing-room : (s : List ℕ) → length s ≤ maxPattern → length (listingText s) ≤ maxListing
 listing-room s h = omega (arith, listing-most [] s h, ap length (listing-none [] s refl))
-
--- the refusal line
-pub refusal-parts : (number : ℕ) → length (refusalText number) ≡ 7 + length (lastField number)
-unfolding refusalText
-refusal-parts number = length-append (codes "refused") (lastField number)
-
--- numbers of refusals have at most three digits
-pub refusal-room : (number : ℕ) → number < 1000 → length (refusalText number) ≤ 13
-refusal-room number h = omega (arith, refusal-parts number, length-last number, count-least number 2 (omega arith))
-
-pub refusal-put : (number : ℕ) (d : List ℕ) {b₁ b₂ : List ℕ} {n₁ n₂ : ℕ} → Room (refusalText number) 0 d
-    → Puts (codes "refused") 0 d b₁ n₁ → Puts (lastField number) n₁ b₁ b₂ n₂ → Puts (refusalText number) 0 d b₂ n₂
-unfolding refusalText
-refusal-put number d h p₁ p₂ = puts-then p₁ p₂ (omega (arith, refusal-parts number))
