@@ -13,7 +13,7 @@ use Rattle.edit.specs.declared.Answer.the-variants.{Done, Refused}
 use Rattle.edit.specs.declared.Counts.{Counts}
 use Rattle.edit_file.proofs.Only.{edit-only}
 use Rattle.edit_file.specs.EditFile.{EditFile}
-use Rattle.lyndon.specs.Calls.{ArrayMade, LastFactorsMade}
+use Rattle.lyndon_tables.specs.Calls.{ArrayMade, LastFactorsMade}
 use Rattle.edit_refusal.proofs.Passed.{passed-shape}
 use Rattle.edit_refusal.proofs.Refused.{Shaped}
 use Rattle.ranks.specs.Ranks.{Bytes, isOrder, byteOrder, ranked}
@@ -23,7 +23,8 @@ use Rattle.refusals.proofs.First.{First, first-zero, first-passes}
 use Rattle.refusals.specs.Filled.{Fills}
 use Rattle.refusals.specs.Refusals.{Refusal, editRefusals, firstOf, notOrder, patternTooLong, tooShort, maxPattern, noStretch, blockTooLong, editedTooLong}
 use Rattle.refusals.specs.declared.Filled.{Filled}
-use Rattle.text.proofs.Lines.{refusal-room, listing-room}
+use Rattle.text.proofs.Line.{refusal-room}
+use Rattle.text_lines.proofs.Lines.{listing-room}
 use Rattle.text.proofs.Begins.{puts-begins}
 use Rattle.text.specs.Inner.{maxListing}
 use Rattle.text.specs.Listing.{editedText, refusalText, printed}

@@ -2,7 +2,7 @@
 // group. That the edit can be made and the buffer is long enough is the caller's concern.
 use cuts::splice;
 use refusals::MAX_PATTERN;
-use text::write_text;
+use text_lines::write_text;
 ghost use Prim.Native.Nat.{_≤_};
 ghost use lib.ListN.{length};
 ghost use Rattle.refusals.specs.Refusals.{maxPattern};

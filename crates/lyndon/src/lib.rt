@@ -1,22 +1,14 @@
-// The public library on one pattern: its factors, both tables, and back from a wanted reach table to a pattern that has it. What asks for words
-// is `lyndon_words`, for factors of a part `lyndon_parts`.
+// The public library's factors of a pattern, and byte order. Tables are made by `lyndon_tables`, and factors of a part by `lyndon_parts`.
 // Each call tests its refusals in the order that its comment names and then calls the crate that does the work; none of them requires anything.
 use factoring::count_groups;
 use factoring::fill_groups;
-use prefix_making::make_last_factors;
 use ranks::ORDER;
-use ranks::bytes_of;
 use ranks::fill_byte_order;
-use ranks::replace_ranks;
 use ranks::test_order;
-use reach_table::make_lyndon_array;
-use realisation::nests;
-use realisation::write_symbols;
 use refusals::Filled;
 use refusals::MAX_PATTERN;
-use refusals::MAX_WANTED;
 use refusals::refused;
-ghost use Rattle.lyndon.specs.Calls.{Factored, ArrayMade, LastFactorsMade, ArrayRealised, ByteOrderWritten};
+ghost use Rattle.lyndon.specs.Calls.{Factored, ByteOrderWritten};
 
 // The groups of the pattern's factors, three numbers each: start, factor length, power. Refusals 13, 1, 8.
 pub fn factor(pattern: &[u8], order: &[u8], groups: &mut [u16]) -> Filled
@@ -40,81 +32,6 @@ pub fn factor(pattern: &[u8], order: &[u8], groups: &mut [u16]) -> Filled
     }
     let count = fill_groups(pattern, ranks, 0, groups);
     Filled { refusal: 0, count }
-}
-
-// The reach table: entry i is the length of the longest Lyndon substring that starts at i. Refusals 13, 1, 8.
-pub fn lyndon_array(pattern: &[u8], order: &[u8], array: &mut [u16]) -> Filled
-    ensures { λ r. ⌜ ArrayMade (now (pattern .entry)) (now (order .entry)) (now (array .entry)) (now (array .exit)) r ⌝ }
-{
-    let tested = test_order(order);
-    if !tested.order {
-        return refused(13);
-    }
-    let used = tested.used;
-    let ranks = &order[..used];
-    if MAX_PATTERN < pattern.len() {
-        return refused(1);
-    }
-    if array.len() < pattern.len() {
-        return refused(8);
-    }
-    make_lyndon_array(pattern, ranks, array);
-    Filled {
-        refusal: 0,
-        count: pattern.len(),
-    }
-}
-
-// The prefix table: entry q - 1 is the length of the last factor of the first q bytes. Refusals 13, 1, 8.
-pub fn last_factors(pattern: &[u8], order: &[u8], last: &mut [u16]) -> Filled
-    ensures { λ r. ⌜ LastFactorsMade (now (pattern .entry)) (now (order .entry)) (now (last .entry)) (now (last .exit)) r ⌝ }
-{
-    let tested = test_order(order);
-    if !tested.order {
-        return refused(13);
-    }
-    let used = tested.used;
-    let ranks = &order[..used];
-    if MAX_PATTERN < pattern.len() {
-        return refused(1);
-    }
-    if last.len() < pattern.len() {
-        return refused(8);
-    }
-    make_last_factors(pattern, ranks, last);
-    Filled {
-        refusal: 0,
-        count: pattern.len(),
-    }
-}
-
-// A pattern whose reach table is the wanted one; where there are several, one of them. Refusals 13, 11, 12, 8.
-pub fn realise_array(wanted: &[u16], order: &[u8], pattern: &mut [u8]) -> Filled
-    ensures { λ r. ⌜ ArrayRealised (now (wanted .entry)) (now (order .entry)) (now (pattern .entry)) (now (pattern .exit)) r ⌝ }
-{
-    let tested = test_order(order);
-    if !tested.order {
-        return refused(13);
-    }
-    if MAX_WANTED < wanted.len() {
-        return refused(11);
-    }
-    let nested = nests(wanted);
-    if !nested {
-        return refused(12);
-    }
-    if pattern.len() < wanted.len() {
-        return refused(8);
-    }
-    write_symbols(wanted, pattern);
-    if 0 < tested.used {
-        let bytes = bytes_of(order);
-        replace_ranks(pattern, wanted.len(), &bytes);
-    }
-    Filled {
-        refusal: 0,
-        count: wanted.len(),
-    }
 }
 
 // Byte order, each byte's value as its rank, for scripts that have no order of their own. Refusal 8.

@@ -1,4 +1,4 @@
-// The calls of `lyndon`, `lyndon_words`, `lyndon_compare`, `lyndon_parts`, `lyndon_text` and `block` under C names, on numbers and slices:
+// The calls of all the public crates but `lyndon_edit`, which is `lyndon_edit_c`'s, under C names, on numbers and slices:
 // the answer is the refusal's number, where the call has one, and what else is told goes through `&mut`. Each body is the call and the taking
 // apart of its answer; include/lyndon.h declares them, and has the interface's number that is told here. Slices stand before numbers in every
 // list of parameters: a slice that got the last register and a place on the stack would not be found where Rust puts one.
@@ -6,22 +6,27 @@ use block::read_block;
 use block::write_block;
 use lyndon::byte_order;
 use lyndon::factor;
-use lyndon::last_factors;
-use lyndon::realise_array;
 use lyndon_compare::Comparison;
 use lyndon_compare::compare;
 use lyndon_parts::factor_prefix;
 use lyndon_parts::factor_suffix;
+use lyndon_rotation::least_rotation;
+use lyndon_tables::last_factors;
+use lyndon_test::is_lyndon;
 use lyndon_text::write_listing;
-use lyndon_words::is_lyndon;
-use lyndon_words::least_rotation;
+use lyndon_wanted::realise_array;
 use lyndon_words::longest_word_place;
 use lyndon_words::longest_words;
 use refusals::INTERFACE;
 ghost use mathlib.Core.Path.{_≡_};
 ghost use Rattle.refusals.specs.Interface.{interface};
-ghost use Rattle.lyndon.specs.Calls.{Factored, ArrayMade, LastFactorsMade, ArrayRealised, ByteOrderWritten};
-ghost use Rattle.lyndon_words.specs.Calls.{StartsListed, wordPlace, LyndonTold, RotationFound, TreeListed};
+ghost use Rattle.lyndon.specs.Calls.{Factored, ByteOrderWritten};
+ghost use Rattle.lyndon_tables.specs.Calls.{ArrayMade, LastFactorsMade};
+ghost use Rattle.lyndon_wanted.specs.Calls.{ArrayRealised};
+ghost use Rattle.lyndon_words.specs.Calls.{StartsListed, wordPlace};
+ghost use Rattle.lyndon_test.specs.Calls.{LyndonTold};
+ghost use Rattle.lyndon_rotation.specs.Calls.{RotationFound};
+ghost use Rattle.lyndon_tree.specs.Calls.{TreeListed};
 ghost use Rattle.lyndon_compare.specs.Calls.{comparison};
 ghost use Rattle.lyndon_parts.specs.Calls.{PrefixFactored, SuffixFactored};
 ghost use Rattle.lyndon_text.specs.Calls.{ListingWritten};
@@ -67,7 +72,7 @@ pub extern "C" fn lyndon_array(
 ) -> u8
     ensures { λ r. ⌜ ArrayMade (now (pattern .entry)) (now (order .entry)) (now (table .entry)) (now (table .exit)) (record { refusal = r; count = now (count .exit) }) ⌝ }
 {
-    let answer = lyndon::lyndon_array(pattern, order, table);
+    let answer = lyndon_tables::lyndon_array(pattern, order, table);
     *count = answer.count;
     answer.refusal
 }
@@ -178,7 +183,7 @@ pub extern "C" fn lyndon_least_rotation(pattern: &[u8], order: &[u8], start: &mu
 pub extern "C" fn lyndon_tree(word: &[u8], order: &[u8], nodes: &mut [u16], count: &mut usize) -> u8
     ensures { λ r. ⌜ TreeListed (now (word .entry)) (now (order .entry)) (now (nodes .entry)) (now (nodes .exit)) (record { refusal = r; count = now (count .exit) }) ⌝ }
 {
-    let answer = lyndon_words::lyndon_tree(word, order, nodes);
+    let answer = lyndon_tree::lyndon_tree(word, order, nodes);
     *count = answer.count;
     answer.refusal
 }

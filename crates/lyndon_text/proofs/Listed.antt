@@ -14,7 +14,7 @@ use Rattle.refusals.specs.declared.Filled.{Filled}
 use Rattle.rows.specs.Row.{written}
 use Rattle.rows.specs.Written.{Puts}
 use Rattle.text.proofs.Begins.{puts-begins}
-use Rattle.text.proofs.Lines.{listing-same}
+use Rattle.text_lines.proofs.Lines.{listing-same}
 use Rattle.text.specs.Listing.{listingBy}
 use Rattle.lyndon_text.specs.Calls.{ListingWritten}
 

@@ -1,10 +1,10 @@
-// The public library's listing of a pattern. It tests its refusals in their order and then calls `text`, which does the work.
+// The public library's listing of a pattern. It tests its refusals in their order and then calls `text_lines`, which does the work.
 use ranks::test_order;
 use refusals::Filled;
 use refusals::MAX_PATTERN;
 use refusals::refused;
-use text::listing_length;
-use text::write_text;
+use text_lines::listing_length;
+use text_lines::write_text;
 ghost use Rattle.lyndon_text.specs.Calls.{ListingWritten};
 
 // The listing of the pattern's groups, as CSV; the count is of bytes. Refusals 13, 1, 8.

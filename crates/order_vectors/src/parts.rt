@@ -3,7 +3,7 @@ use show::calls;
 use show::calls::OLD;
 
 fn prefixes(s: &[u8], order: &[u8], table: &mut [u16]) {
-    lyndon::last_factors(s, order, table);
+    lyndon_tables::last_factors(s, order, table);
     calls::factor_prefix(s, order, table, 0, 0);
     calls::factor_prefix(s, order, table, 5, 12);
     calls::factor_prefix(s, order, table, 8, 15);
@@ -11,7 +11,7 @@ fn prefixes(s: &[u8], order: &[u8], table: &mut [u16]) {
 }
 
 fn suffixes(s: &[u8], order: &[u8], table: &mut [u16]) {
-    lyndon::lyndon_array(s, order, table);
+    lyndon_tables::lyndon_array(s, order, table);
     calls::factor_suffix(s, order, table, 0, 12);
     calls::factor_suffix(s, order, table, 4, 15);
     calls::factor_suffix(s, order, table, 9, 9);
@@ -19,9 +19,9 @@ fn suffixes(s: &[u8], order: &[u8], table: &mut [u16]) {
 }
 
 fn both(s: &[u8], order: &[u8], table: &mut [u16]) {
-    lyndon::last_factors(s, order, table);
+    lyndon_tables::last_factors(s, order, table);
     calls::factor_prefix(s, order, table, 25, 6);
-    lyndon::lyndon_array(s, order, table);
+    lyndon_tables::lyndon_array(s, order, table);
     calls::factor_suffix(s, order, table, 0, 6);
 }
 

@@ -9,17 +9,17 @@ use show::edits::edit_with;
 fn edits(s: &[u8], order: &[u8], array: &[u16], last: &[u16]) {
     edit_with(s, order, array, last, 5, 6, b"b", 1, 1);
     let mut own = [OLD; 13];
-    lyndon::lyndon_array(s, order, &mut own);
+    lyndon_tables::lyndon_array(s, order, &mut own);
     edit_with(s, order, &own, last, 5, 6, b"b", 1, 1);
-    lyndon::last_factors(s, order, &mut own);
+    lyndon_tables::last_factors(s, order, &mut own);
     edit_with(s, order, array, &own, 5, 6, b"b", 1, 1);
 }
 
 // The tables under one order, lent to questions under another.
 fn lent(s: &[u8], of: &[u8], order: &[u8], table: &mut [u16]) {
-    lyndon::last_factors(s, of, table);
+    lyndon_tables::last_factors(s, of, table);
     calls::factor_prefix(s, order, table, s.len(), 3);
-    lyndon::lyndon_array(s, of, table);
+    lyndon_tables::lyndon_array(s, of, table);
     calls::factor_suffix(s, order, table, 0, 3);
 }
 

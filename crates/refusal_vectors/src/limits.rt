@@ -2,7 +2,8 @@
 use show::calls;
 use show::calls::OLD;
 
-// Each call of `lyndon`, `lyndon_words` and `lyndon_parts` that has refusal 1. Both questions ask for the groups of the whole pattern.
+// Each call of `lyndon`, `lyndon_tables`, `lyndon_words`, `lyndon_test`, `lyndon_rotation` and `lyndon_parts` that has refusal 1. Both questions ask for
+// the groups of the whole pattern.
 fn each_call(pattern: &[u8], order: &[u8], table: &mut [u16]) {
     calls::factor(pattern, order, 4);
     calls::lyndon_array(pattern, order, 16385);
@@ -11,9 +12,9 @@ fn each_call(pattern: &[u8], order: &[u8], table: &mut [u16]) {
     calls::longest_word(pattern, order);
     calls::is_lyndon(pattern, order);
     calls::least_rotation(pattern, order);
-    lyndon::last_factors(pattern, order, table);
+    lyndon_tables::last_factors(pattern, order, table);
     calls::factor_prefix(pattern, order, table, pattern.len(), 4);
-    lyndon::lyndon_array(pattern, order, table);
+    lyndon_tables::lyndon_array(pattern, order, table);
     calls::factor_suffix(pattern, order, table, 0, 4);
 }
 

@@ -60,7 +60,7 @@ fn longest(order: &[u8], falling: &mut [u16]) {
     calls::realise_array(&[1; 256], order, 256);
     let mut word = [b'a'; 256];
     word[255] = b'b';
-    lyndon::lyndon_array(&word, order, falling);
+    lyndon_tables::lyndon_array(&word, order, falling);
     calls::realise_array(falling, order, 255);
     calls::realise_array(falling, order, 256);
     calls::realise_array(falling, order, 258);

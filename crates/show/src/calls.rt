@@ -43,7 +43,7 @@ pub fn lyndon_array(pattern: &[u8], order: &[u8], room: usize) {
     let mut space = [OLD; SPACE];
     let n = least(room, SPACE);
     let row = &mut space[0..n];
-    let a = lyndon::lyndon_array(pattern, order, row);
+    let a = lyndon_tables::lyndon_array(pattern, order, row);
     crate::filled(a, row);
 }
 
@@ -52,7 +52,7 @@ pub fn last_factors(pattern: &[u8], order: &[u8], room: usize) {
     let mut space = [OLD; SPACE];
     let n = least(room, SPACE);
     let row = &mut space[0..n];
-    let a = lyndon::last_factors(pattern, order, row);
+    let a = lyndon_tables::last_factors(pattern, order, row);
     crate::filled(a, row);
 }
 
@@ -63,7 +63,7 @@ pub fn realise_array(wanted: &[u16], order: &[u8], room: usize) {
     let mut space = [BLANK; BUFFER];
     let n = least(room, BUFFER);
     let buffer = &mut space[0..n];
-    let a = lyndon::realise_array(wanted, order, buffer);
+    let a = lyndon_wanted::realise_array(wanted, order, buffer);
     realised(a, order, buffer);
 }
 
@@ -73,7 +73,7 @@ fn realised(a: Filled, order: &[u8], buffer: &[u8]) {
     let mut space = [OLD; SPACE];
     let n = least(count, SPACE);
     let array = &mut space[0..n];
-    lyndon::lyndon_array(&buffer[0..count], order, array);
+    lyndon_tables::lyndon_array(&buffer[0..count], order, array);
     crate::realised(a, array, &buffer[count..]);
 }
 
@@ -100,7 +100,7 @@ pub fn longest_word_place(pattern: &[u8], order: &[u8]) {
 
 pub fn is_lyndon(word: &[u8], order: &[u8]) {
     given(b"is_lyndon", word, order);
-    crate::verdict(lyndon_words::is_lyndon(word, order));
+    crate::verdict(lyndon_test::is_lyndon(word, order));
 }
 
 pub fn compare(first: &[u8], second: &[u8], order: &[u8]) {
@@ -114,7 +114,7 @@ pub fn compare(first: &[u8], second: &[u8], order: &[u8]) {
 
 pub fn least_rotation(pattern: &[u8], order: &[u8]) {
     given(b"least_rotation", pattern, order);
-    crate::position(lyndon_words::least_rotation(pattern, order));
+    crate::position(lyndon_rotation::least_rotation(pattern, order));
 }
 
 pub fn lyndon_tree(word: &[u8], order: &[u8], room: usize) {
@@ -122,7 +122,7 @@ pub fn lyndon_tree(word: &[u8], order: &[u8], room: usize) {
     let mut space = [OLD; SPACE];
     let n = least(room, SPACE);
     let row = &mut space[0..n];
-    let a = lyndon_words::lyndon_tree(word, order, row);
+    let a = lyndon_tree::lyndon_tree(word, order, row);
     crate::filled(a, row);
 }
 

@@ -75,8 +75,8 @@ pub fn edit(
 ) {
     let mut array = [0; MAX_PATTERN];
     let mut last = [0; MAX_PATTERN];
-    lyndon::lyndon_array(pattern, order, &mut array);
-    lyndon::last_factors(pattern, order, &mut last);
+    lyndon_tables::lyndon_array(pattern, order, &mut array);
+    lyndon_tables::last_factors(pattern, order, &mut last);
     edit_with(
         pattern,
         order,

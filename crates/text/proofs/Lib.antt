@@ -2,5 +2,5 @@ pub mod Column
 pub mod Lengths
 pub mod Begins
 pub mod Word
-pub mod Lines
+pub mod Line
 pub mod Examples

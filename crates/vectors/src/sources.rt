@@ -54,7 +54,7 @@ fn figure_2(t: &[u8], order: &[u8], table: &mut [u16]) {
     show::heading(b"source 004, figure 2");
     calls::lyndon_tree(b"$abaababbababaaba", order, 66);
     calls::lyndon_array(t, order, 16);
-    lyndon::lyndon_array(t, order, table);
+    lyndon_tables::lyndon_array(t, order, table);
     calls::factor_suffix(t, order, table, 6, 12);
 }
 
@@ -68,9 +68,9 @@ fn example_8(uv: &[u8], order: &[u8], table: &mut [u16]) {
     calls::is_lyndon(b"abababcb", order);
     calls::longest_words(uv, order, 2);
     calls::longest_word(uv, order);
-    lyndon::last_factors(uv, order, table);
+    lyndon_tables::last_factors(uv, order, table);
     calls::factor_prefix(uv, order, table, 8, 9);
-    lyndon::lyndon_array(uv, order, table);
+    lyndon_tables::lyndon_array(uv, order, table);
     calls::factor_suffix(uv, order, table, 8, 15);
 }
 

@@ -4,7 +4,7 @@ use mathlib.Core.Path.{refl}
 use native.Mathlib.Omega.{arith}
 use Rattle.cuts.proofs.Spliced.{spliced-within, spliced-long, spliced-edited}
 use Rattle.ranks.proofs.Ranked.{no-ranks}
-use Rattle.text.proofs.Lines.{listing-none}
+use Rattle.text_lines.proofs.Lines.{listing-none}
 use Rattle.words.proofs.Edit.{length-edited}
 use Rattle.words.specs.Edit.{edited}
 use borrow.Author.Needs.{needs}
@@ -13,7 +13,7 @@ use Rattle.edited_text.proofs.write_edited.Tie as tie
 use Rattle.edited_text.proofs.write_edited.Reads as reads
 use Rattle.edited_text.proofs.write_edited.Lts as lts
 use Rattle.cuts.proofs.splice.Reads as splice-reads
-use Rattle.text.proofs.write_text.Reads as write-text-reads
+use Rattle.text_lines.proofs.write_text.Reads as write-text-reads
 
 slice-aggregate-splice : tie.Need-slice-aggregate-splice
 slice-aggregate-splice c = search needs

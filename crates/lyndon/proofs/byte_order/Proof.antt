@@ -1,6 +1,6 @@
 -- `lyndon::byte_order` meets its contract: a row of under 256 entries is refused, and to another byte order is written.
 use mathlib.Core.Path.{refl}
-use Rattle.lyndon.proofs.Made.{order-no-room, order-written}
+use Rattle.lyndon.proofs.Ordered.{order-no-room, order-written}
 use borrow.Author.Needs.{needs}
 use Rattle.lyndon.proofs.byte_order.Statement.{statement}
 use Rattle.lyndon.proofs.byte_order.Tie as tie

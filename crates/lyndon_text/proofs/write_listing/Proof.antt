@@ -6,7 +6,7 @@ use Prim.Native.Nat.{_≤_}
 use lib.ListN.{length, take}
 use lib.Seq.{length-take-le}
 use borrow.Author.Tests.{not-true, not-false}
-use Rattle.text.proofs.Lines.{listing-most}
+use Rattle.text_lines.proofs.Lines.{listing-most}
 use Rattle.text.specs.Listing.{listingBy}
 use Rattle.lyndon_text.proofs.Listed.{not-listed, listed-long, listed-short, listed}
 use borrow.Author.Needs.{needs}
@@ -17,8 +17,8 @@ use Rattle.lyndon_text.proofs.write_listing.Reads as reads
 use Rattle.lyndon_text.proofs.write_listing.Lts as lts
 use Rattle.ranks.proofs.test_order.Reads as test-order-reads
 use Rattle.refusals.proofs.refused.Reads as refused-reads
-use Rattle.text.proofs.listing_length.Reads as listing-length-reads
-use Rattle.text.proofs.write_text.Reads as write-text-reads
+use Rattle.text_lines.proofs.listing_length.Reads as listing-length-reads
+use Rattle.text_lines.proofs.write_text.Reads as write-text-reads
 
 test-order-requires : tie.Need-test-order-requires
 test-order-requires c κs = search needs

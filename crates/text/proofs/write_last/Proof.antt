@@ -2,7 +2,7 @@
 use lib.ListN.{length-set}
 use Rattle.decimal.proofs.Decimal.{length-decimal}
 use Rattle.text.proofs.Lengths.{length-last}
-use Rattle.text.proofs.Lines.{last-put}
+use Rattle.text.proofs.Line.{last-put}
 use native.Mathlib.Omega.{arith}
 use borrow.Author.Needs.{needs}
 use Rattle.text.proofs.write_last.Statement.{statement}

@@ -1,6 +1,6 @@
 -- `text::write_line` meets its contract: the numbers, the word and the shared length stand one behind the other.
 use Rattle.text.proofs.Lengths.{line-parts}
-use Rattle.text.proofs.Lines.{line-put}
+use Rattle.text.proofs.Line.{line-put}
 use native.Mathlib.Omega.{arith}
 use borrow.Author.Needs.{needs}
 use Rattle.text.proofs.write_line.Statement.{statement}

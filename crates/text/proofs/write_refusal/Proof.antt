@@ -1,5 +1,5 @@
 -- `text::write_refusal` meets its contract: the word and the number stand one behind the other.
-use Rattle.text.proofs.Lines.{refusal-parts, refusal-put}
+use Rattle.text.proofs.Line.{refusal-parts, refusal-put}
 use native.Mathlib.Omega.{arith}
 use borrow.Author.Needs.{needs}
 use Rattle.text.proofs.write_refusal.Statement.{statement}

@@ -1,0 +1,2 @@
+pub mod Realised
+pub mod Wanted
