@@ -49,9 +49,22 @@ pub const LAST: Call<Vec<u8>, usize> = |s, order, rows| told(engine::last_factor
 pub const ROTATION: Call<Vec<u8>, usize> = |s, order, _| marked(engine::least_rotation(s, order));
 pub const LISTING: Call<Vec<u8>, usize> = |s, order, rows| told(engine::write_listing(s, order, &mut rows.text));
 
+/// A call by itself: the processor does nothing of the calls before and after beside it.
+fn alone<O>(call: impl Fn() -> O) -> O {
+    let fence = || unsafe { std::arch::x86_64::_mm_lfence() };
+    fence();
+    let answer = call();
+    fence();
+    answer
+}
+
 /// The test of 13: the empty string is told of at once, and an empty order is refused by its length.
-pub const TEST: [Contest<(), usize>; 1] =
-    [contest("test of 13", |_, order, _| told(engine::is_lyndon(&[], order)), |_, _, _| engine::is_lyndon(&[], &[]).1[0], Target::NONE)];
+pub const TEST: [Contest<(), usize>; 1] = [contest(
+    "test of 13",
+    |_, order, _| alone(|| told(engine::is_lyndon(&[], order))),
+    |_, _, _| alone(|| engine::is_lyndon(&[], &[]).1[0]),
+    Target::NONE,
+)];
 
 const TWO_LETTERS: Target = Target { most: 1.0, families: &["random, two letters"] };
 

@@ -4,7 +4,7 @@ use cuts::splice;
 use edit::Answer;
 use edit::fill;
 use edit_refusal::refusal;
-use ranks::test_order;
+use symbols::test_order;
 use refusals::MAX_PATTERN;
 ghost use mathlib.Core.List.{_∷_};
 ghost use Prim.Native.Nat.{_*_, _≤_, min};

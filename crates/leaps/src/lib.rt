@@ -1,6 +1,6 @@
 // Steps of sixteen bytes, which compile to a few vector instructions each: how far two strings agree, and how far Duval's scan may leap.
 // Whether bytes agree does not depend on their ranks; which is above another does. What is left of a block that fails is the byte loops' concern.
-use ranks::wide;
+use symbols::wide;
 ghost use mathlib.Core.Bool.{true, false};
 ghost use mathlib.Core.Path.{_≡_};
 ghost use mathlib.Core.Logic.{_⊎_};

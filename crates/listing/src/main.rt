@@ -3,8 +3,8 @@
 use libc::STDIN_FILENO;
 use libc::STDOUT_FILENO;
 use lyndon_text::write_listing;
-use ranks::ORDER;
-use ranks::fill_byte_order;
+use symbols::ORDER;
+use symbols::fill_byte_order;
 use refusals::MAX_PATTERN;
 use text::MAX_LISTING;
 use text::write_refusal;

@@ -2,9 +2,9 @@
 // Each call tests its refusals in the order that its comment names and then calls the crate that does the work; none of them requires anything.
 use factoring::count_groups;
 use factoring::fill_groups;
-use ranks::ORDER;
-use ranks::fill_byte_order;
-use ranks::test_order;
+use symbols::ORDER;
+use symbols::fill_byte_order;
+use symbols::test_order;
 use refusals::Filled;
 use refusals::MAX_PATTERN;
 use refusals::refused;

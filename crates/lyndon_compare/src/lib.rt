@@ -1,5 +1,5 @@
 // The public library's comparison of two strings. It tests its refusals and then calls `scan`, whose comparison the whole engine uses.
-use ranks::test_order;
+use symbols::test_order;
 use refusals::MAX_PATTERN;
 use scan::Compared;
 ghost use mathlib.Core.Path.{_≡_};

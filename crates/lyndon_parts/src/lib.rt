@@ -3,7 +3,7 @@
 use prefix_chain::count_prefix;
 use prefix_chain::write_prefix;
 use prefix_testing::is_last_factors;
-use ranks::test_order;
+use symbols::test_order;
 use reach_table::is_lyndon_array;
 use refusals::Filled;
 use refusals::MAX_PATTERN;

@@ -1,5 +1,5 @@
 // The public library's mark of a pattern that is looped: the start of its least rotation. It tests its refusals and then calls `rotation`.
-use ranks::test_order;
+use symbols::test_order;
 use refusals::MAX_PATTERN;
 use rotation::least_start;
 ghost use Rattle.lyndon_rotation.specs.Calls.{RotationFound};

@@ -1,5 +1,5 @@
 // The public library's test of a string, whether it is a Lyndon word. It tests its refusals and then looks at the first group of factors.
-use ranks::test_order;
+use symbols::test_order;
 use refusals::MAX_PATTERN;
 use scan::next_group;
 ghost use Rattle.lyndon_test.specs.Calls.{LyndonTold};

@@ -1,5 +1,5 @@
 // The public library's listing of a pattern. It tests its refusals in their order and then calls `text_lines`, which does the work.
-use ranks::test_order;
+use symbols::test_order;
 use refusals::Filled;
 use refusals::MAX_PATTERN;
 use refusals::refused;

@@ -1,5 +1,5 @@
 // The public library's tree of a Lyndon word. It tests its refusals and then calls `tree`.
-use ranks::test_order;
+use symbols::test_order;
 use refusals::Filled;
 use refusals::MAX_TREE;
 use refusals::refused;

@@ -1,7 +1,7 @@
 // The public library's way back from a wanted reach table to a pattern that has it. It tests its refusals and then calls `realisation`.
-use ranks::bytes_of;
-use ranks::replace_ranks;
-use ranks::test_order;
+use symbols::bytes_of;
+use symbols::replace_ranks;
+use symbols::test_order;
 use realisation::nests;
 use realisation::write_symbols;
 use refusals::Filled;

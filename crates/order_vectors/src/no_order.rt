@@ -1,5 +1,5 @@
 // Refusal 13, of every call that takes an order: no entries, 255 and 257, and one value twice. It comes before every other refusal.
-use ranks::fill_byte_order;
+use symbols::fill_byte_order;
 use show::calls;
 use show::edits::edit_with;
 

@@ -1,7 +1,7 @@
 // The orders of the cases.
 ghost use mathlib.Core.Path.{_≡_};
 ghost use lib.ListN.{length};
-use ranks::fill_byte_order;
+use symbols::fill_byte_order;
 
 // Each rank is the one before it and a step, modulo 256: an order where the step is odd.
 pub(crate) fn stepping(order: &mut [u8], first: u8, step: u8) {

@@ -1,6 +1,6 @@
 // Refusal 5: tables that are right under one order and wrong under another.
 use crate::orders::moved;
-use ranks::fill_byte_order;
+use symbols::fill_byte_order;
 use show::calls;
 use show::calls::OLD;
 use show::edits::edit_with;

@@ -8,7 +8,7 @@ use leaps::above_end;
 use leaps::agree_block;
 use leaps::next_gap;
 use prefix_table::Mark;
-use ranks::below;
+use symbols::below;
 ghost use mathlib.Core.Path.{_≡_};
 ghost use Prim.Native.Nat.{_-_, _≤_};
 ghost use lib.ListN.{length, take};

@@ -5,7 +5,7 @@ use memo::best;
 use memo::entry;
 use memo::keep;
 use memo::recall;
-use ranks::below;
+use symbols::below;
 use scan::shorter;
 ghost use mathlib.Core.Path.{_≡_};
 ghost use Prim.Native.Nat.{_+_, _<_, _≤_};

@@ -10,7 +10,7 @@ mod short_rows;
 mod wanted;
 mod wrong_tables;
 
-use ranks::fill_byte_order;
+use symbols::fill_byte_order;
 
 fn main() {
     let mut order = [0; 256];

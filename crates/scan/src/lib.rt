@@ -3,8 +3,8 @@
 use leaps::agree_blocks;
 use leaps::leap;
 use leaps::next_gap;
-use ranks::below;
-use ranks::rank_of;
+use symbols::below;
+use symbols::rank_of;
 ghost use mathlib.Core.Bool.{cond};
 ghost use mathlib.Core.Path.{_≡_};
 ghost use mathlib.Core.Logic.{_⊎_};

@@ -14,7 +14,7 @@ use lyndon_rotation::Position;
 use lyndon_test::Verdict;
 use lyndon_words::Starts;
 use lyndon_words::WordPlace;
-use ranks::test_order;
+use symbols::test_order;
 use refusals::Filled;
 
 // A word or a row of up to so many elements is printed whole.

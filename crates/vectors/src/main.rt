@@ -10,7 +10,7 @@ mod sheet;
 mod sources;
 mod wanted;
 
-use ranks::fill_byte_order;
+use symbols::fill_byte_order;
 
 fn main() {
     let mut order = [0; 256];

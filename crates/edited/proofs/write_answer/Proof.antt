@@ -12,7 +12,7 @@ use Rattle.edited.proofs.refusal_of.Reads as refusal-of-reads
 use Rattle.edited_text.proofs.write_edited.Reads as write-edited-reads
 use Rattle.lyndon_tables.proofs.last_factors.Reads as last-factors-reads
 use Rattle.lyndon_tables.proofs.lyndon_array.Reads as lyndon-array-reads
-use Rattle.ranks.proofs.fill_byte_order.Reads as fill-byte-order-reads
+use Rattle.symbols.proofs.fill_byte_order.Reads as fill-byte-order-reads
 use Rattle.text.proofs.write_refusal.Reads as write-refusal-reads
 
 slice-aggregate-fill-byte-order : tie.Need-slice-aggregate-fill-byte-order

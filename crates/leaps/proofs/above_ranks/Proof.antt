@@ -12,7 +12,7 @@ use Rattle.leaps.proofs.above_ranks.Statement.{statement}
 use Rattle.leaps.proofs.above_ranks.Tie as tie
 use Rattle.leaps.proofs.above_ranks.Reads as reads
 use Rattle.leaps.proofs.above_ranks.Lts as lts
-use Rattle.ranks.proofs.wide.Reads as wide-reads
+use Rattle.symbols.proofs.wide.Reads as wide-reads
 
 abbrev Inv-loop : tie.InvT-loop
 Inv-loop s ranks j d all₀ u₀ all u = (u ≤ 16) × (all ≡ true → Above (ranked ranks s) d j (j + u))

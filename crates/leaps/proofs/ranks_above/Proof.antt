@@ -14,7 +14,7 @@ use Rattle.leaps.proofs.ranks_above.Tie as tie
 use Rattle.leaps.proofs.ranks_above.Reads as reads
 use Rattle.leaps.proofs.ranks_above.Lts as lts
 use Rattle.leaps.proofs.above_ranks.Reads as above-ranks-reads
-use Rattle.ranks.proofs.wide.Reads as wide-reads
+use Rattle.symbols.proofs.wide.Reads as wide-reads
 
 abbrev Inv-loop : tie.InvT-loop
 Inv-loop s ranks j c at d k₀ k = (j ≤ k) × (k ≤ length s) × Above (ranked ranks s) (rank ranks c) j k × (d ≡ rank ranks c)

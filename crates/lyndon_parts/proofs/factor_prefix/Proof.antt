@@ -15,7 +15,7 @@ use Rattle.lyndon_parts.proofs.factor_prefix.Lts as lts
 use Rattle.prefix_chain.proofs.count_prefix.Reads as count-prefix-reads
 use Rattle.prefix_chain.proofs.write_prefix.Reads as write-prefix-reads
 use Rattle.prefix_testing.proofs.is_last_factors.Reads as is-last-factors-reads
-use Rattle.ranks.proofs.test_order.Reads as test-order-reads
+use Rattle.symbols.proofs.test_order.Reads as test-order-reads
 use Rattle.refusals.proofs.refused.Reads as refused-reads
 
 test-order-requires : tie.Need-test-order-requires

@@ -9,7 +9,7 @@ use Rattle.lyndon_words.proofs.longest_word_place.Tie as tie
 use Rattle.lyndon_words.proofs.longest_word_place.Reads as reads
 use Rattle.lyndon_words.proofs.longest_word_place.Lts as lts
 use Rattle.longest.proofs.measure.Reads as measure-reads
-use Rattle.ranks.proofs.test_order.Reads as test-order-reads
+use Rattle.symbols.proofs.test_order.Reads as test-order-reads
 
 test-order-requires : tie.Need-test-order-requires
 test-order-requires c κs = search needs

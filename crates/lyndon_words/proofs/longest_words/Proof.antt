@@ -10,7 +10,7 @@ use Rattle.lyndon_words.proofs.longest_words.Reads as reads
 use Rattle.lyndon_words.proofs.longest_words.Lts as lts
 use Rattle.longest.proofs.measure.Reads as measure-reads
 use Rattle.longest.proofs.write_longest.Reads as write-longest-reads
-use Rattle.ranks.proofs.test_order.Reads as test-order-reads
+use Rattle.symbols.proofs.test_order.Reads as test-order-reads
 
 test-order-requires : tie.Need-test-order-requires
 test-order-requires c κs = search needs

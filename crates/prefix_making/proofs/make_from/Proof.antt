@@ -20,7 +20,7 @@ use Rattle.prefix_making.proofs.make_from.Lts as lts
 use Rattle.leaps.proofs.next_gap.Reads as next-gap-reads
 use Rattle.entries.proofs.steps.Reads as steps-reads
 use Rattle.prefix_making.proofs.make_blocks.Reads as make-blocks-reads
-use Rattle.ranks.proofs.below.Reads as below-reads
+use Rattle.symbols.proofs.below.Reads as below-reads
 
 abbrev Inv-loop2 : tie.InvT-loop2
 Inv-loop2 s ranks table₀ i n p₀ j₀ gap stop table p j =

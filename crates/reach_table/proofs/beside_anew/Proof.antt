@@ -15,7 +15,7 @@ use Rattle.reach_table.proofs.beside_anew.Statement.{statement}
 use Rattle.reach_table.proofs.beside_anew.Tie as tie
 use Rattle.reach_table.proofs.beside_anew.Reads as reads
 use Rattle.reach_table.proofs.beside_anew.Lts as lts
-use Rattle.ranks.proofs.below.Reads as below-reads
+use Rattle.symbols.proofs.below.Reads as below-reads
 use Rattle.reach_table.proofs.beside_from.Reads as beside-from-reads
 use Rattle.scan.proofs.shorter.Reads as shorter-reads
 

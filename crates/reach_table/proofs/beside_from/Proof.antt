@@ -10,7 +10,7 @@ use Rattle.reach_table.proofs.beside_from.Statement.{statement}
 use Rattle.reach_table.proofs.beside_from.Tie as tie
 use Rattle.reach_table.proofs.beside_from.Reads as reads
 use Rattle.reach_table.proofs.beside_from.Lts as lts
-use Rattle.ranks.proofs.below.Reads as below-reads
+use Rattle.symbols.proofs.below.Reads as below-reads
 
 abbrev Inv-loop : tie.InvT-loop
 Inv-loop s ranks i j y len known e₀ e = (e < len) × Agrees s i s j e

@@ -9,7 +9,7 @@ use Rattle.scan.proofs.compare.Statement.{statement}
 use Rattle.scan.proofs.compare.Tie as tie
 use Rattle.scan.proofs.compare.Reads as reads
 use Rattle.scan.proofs.compare.Lts as lts
-use Rattle.ranks.proofs.rank_of.Reads as rank-of-reads
+use Rattle.symbols.proofs.rank_of.Reads as rank-of-reads
 use Rattle.scan.proofs.shared_bytes.Reads as shared-bytes-reads
 use Rattle.scan.proofs.shorter.Reads as shorter-reads
 use Rattle.scan.proofs.smaller_number.Reads as smaller-number-reads

@@ -15,7 +15,7 @@ use Rattle.scan.proofs.next_group.Reads as reads
 use Rattle.scan.proofs.next_group.Lts as lts
 use Rattle.leaps.proofs.leap.Reads as leap-reads
 use Rattle.leaps.proofs.next_gap.Reads as next-gap-reads
-use Rattle.ranks.proofs.below.Reads as below-reads
+use Rattle.symbols.proofs.below.Reads as below-reads
 use Rattle.scan.proofs.shorter.Reads as shorter-reads
 
 abbrev Inv-loop2 : tie.InvT-loop2

@@ -1,17 +1,17 @@
--- `ranks::is_byte_order` meets its contract: the ranks before i are those of byte order.
+-- `symbols::is_byte_order` meets its contract: the ranks before i are those of byte order.
 use mathlib.Core.Path.{_≡_, refl}
 use Prim.Native.Nat.{_+_, _-_, _%_, _≤_, _<_}
 use borrow.Author.Tests.{not-false}
 use Rattle.words.proofs.Bounded.{true-false}
 use Rattle.rows.proofs.Fill.{Right, right-one}
 use Rattle.ranks.proofs.Ranked.{byte-order-is, rising-on}
 use borrow.Author.Needs.{needs}
 use native.Mathlib.Omega.{arith}
-use Rattle.ranks.proofs.is_byte_order.Statement.{statement}
-use Rattle.ranks.proofs.is_byte_order.Tie as tie
-use Rattle.ranks.proofs.is_byte_order.Reads as reads
-use Rattle.ranks.proofs.is_byte_order.Lts as lts
-use Rattle.ranks.proofs.rising_block.Reads as rising-block-reads
+use Rattle.symbols.proofs.is_byte_order.Statement.{statement}
+use Rattle.symbols.proofs.is_byte_order.Tie as tie
+use Rattle.symbols.proofs.is_byte_order.Reads as reads
+use Rattle.symbols.proofs.is_byte_order.Lts as lts
+use Rattle.symbols.proofs.rising_block.Reads as rising-block-reads
 
 abbrev Inv-loop : tie.InvT-loop
 Inv-loop order i₀ i = (0 < i) × (i ≤ 241) × (i % 16 ≡ 1) × Right (λ b. b) order 0 i

@@ -1,13 +1,13 @@
--- `ranks::test_order` meets its contract: byte order is known by its blocks, another order by its marks.
+-- `symbols::test_order` meets its contract: byte order is known by its blocks, another order by its marks.
 use mathlib.Core.Path.{sym, _∙_}
 use Rattle.ranks.proofs.Marks.{wrong-size, tested-none, tested-plain, tested-order}
 use borrow.Author.Needs.{needs}
-use Rattle.ranks.proofs.test_order.Statement.{statement}
-use Rattle.ranks.proofs.test_order.Tie as tie
-use Rattle.ranks.proofs.test_order.Reads as reads
-use Rattle.ranks.proofs.test_order.Lts as lts
-use Rattle.ranks.proofs.is_byte_order.Reads as is-byte-order-reads
-use Rattle.ranks.proofs.none_twice.Reads as none-twice-reads
+use Rattle.symbols.proofs.test_order.Statement.{statement}
+use Rattle.symbols.proofs.test_order.Tie as tie
+use Rattle.symbols.proofs.test_order.Reads as reads
+use Rattle.symbols.proofs.test_order.Lts as lts
+use Rattle.symbols.proofs.is_byte_order.Reads as is-byte-order-reads
+use Rattle.symbols.proofs.none_twice.Reads as none-twice-reads
 
 returns : tie.Need-returns
 returns c =

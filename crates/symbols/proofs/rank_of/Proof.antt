@@ -1,15 +1,15 @@
--- `ranks::rank_of` meets its contract: without ranks a byte is its own rank.
+-- `symbols::rank_of` meets its contract: without ranks a byte is its own rank.
 use mathlib.Core.Logic.{⊎-elim}
 use mathlib.Core.Path.{_≡_, sym, ap, _∙_}
 use lib.ListN.{length, getD}
 use native.Mathlib.Omega.{arith}
 use Rattle.ranks.proofs.Ranked.{rank-entry, rank-value}
 use borrow.Author.Needs.{needs}
-use Rattle.ranks.proofs.rank_of.Statement.{statement}
-use Rattle.ranks.proofs.rank_of.Tie as tie
-use Rattle.ranks.proofs.rank_of.Reads as reads
-use Rattle.ranks.proofs.rank_of.Lts as lts
-use Rattle.ranks.proofs.wide.Reads as wide-reads
+use Rattle.symbols.proofs.rank_of.Statement.{statement}
+use Rattle.symbols.proofs.rank_of.Tie as tie
+use Rattle.symbols.proofs.rank_of.Reads as reads
+use Rattle.symbols.proofs.rank_of.Lts as lts
+use Rattle.symbols.proofs.wide.Reads as wide-reads
 
 wide-requires : tie.Need-wide-requires
 wide-requires c κs = search needs

@@ -1,14 +1,14 @@
--- `ranks::below` meets its contract: ranks tell different bytes apart.
+-- `symbols::below` meets its contract: ranks tell different bytes apart.
 use mathlib.Core.Path.{sym, ap, _∙_}
 use lib.ListN.{length, getD}
 use native.Mathlib.Omega.{arith}
 use Rattle.ranks.proofs.Ranked.{rank-entry, rank-value, ranks-long, below-told}
 use borrow.Author.Needs.{needs}
-use Rattle.ranks.proofs.below.Statement.{statement}
-use Rattle.ranks.proofs.below.Tie as tie
-use Rattle.ranks.proofs.below.Reads as reads
-use Rattle.ranks.proofs.below.Lts as lts
-use Rattle.ranks.proofs.wide.Reads as wide-reads
+use Rattle.symbols.proofs.below.Statement.{statement}
+use Rattle.symbols.proofs.below.Tie as tie
+use Rattle.symbols.proofs.below.Reads as reads
+use Rattle.symbols.proofs.below.Lts as lts
+use Rattle.symbols.proofs.wide.Reads as wide-reads
 
 wide-requires : tie.Need-wide-requires
 wide-requires c κs = search needs

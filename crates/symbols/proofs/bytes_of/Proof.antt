@@ -1,15 +1,15 @@
--- `ranks::bytes_of` meets its contract: the bytes before b stand at their ranks.
+-- `symbols::bytes_of` meets its contract: the bytes before b stand at their ranks.
 use Prim.Native.Nat.{_-_}
 use mathlib.Core.Path.{sym, _∙_}
 use Rattle.ranks.proofs.Ranked.{rank-entry}
 use Rattle.ranks.proofs.Inverse.{Inverting, inverting-none, inverting-one, inverting-all}
 use borrow.Author.Needs.{needs}
 use native.Mathlib.Omega.{arith}
-use Rattle.ranks.proofs.bytes_of.Statement.{statement}
-use Rattle.ranks.proofs.bytes_of.Tie as tie
-use Rattle.ranks.proofs.bytes_of.Reads as reads
-use Rattle.ranks.proofs.bytes_of.Lts as lts
-use Rattle.ranks.proofs.wide.Reads as wide-reads
+use Rattle.symbols.proofs.bytes_of.Statement.{statement}
+use Rattle.symbols.proofs.bytes_of.Tie as tie
+use Rattle.symbols.proofs.bytes_of.Reads as reads
+use Rattle.symbols.proofs.bytes_of.Lts as lts
+use Rattle.symbols.proofs.wide.Reads as wide-reads
 
 abbrev Inv-loop : tie.InvT-loop
 Inv-loop order bytes₀ b₀ bytes b = Inverting order bytes b

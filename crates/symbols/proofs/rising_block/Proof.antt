@@ -1,4 +1,4 @@
--- `ranks::rising_block` meets its contract: where all ranks before place k of the block were found to be one more than those before them, they are.
+-- `symbols::rising_block` meets its contract: where all ranks before place k of the block were found to be one more than those before them, they are.
 use mathlib.Core.Bool.{true}
 use mathlib.Core.Path.{_≡_, refl}
 use Prim.Native.Nat.{_+_, _-_, _%_, _≤_}
@@ -7,10 +7,10 @@ use Rattle.rows.proofs.Block.{block-test}
 use Rattle.rows.proofs.Fill.{Right, right-none}
 use borrow.Author.Needs.{needs}
 use native.Mathlib.Omega.{arith}
-use Rattle.ranks.proofs.rising_block.Statement.{statement}
-use Rattle.ranks.proofs.rising_block.Tie as tie
-use Rattle.ranks.proofs.rising_block.Reads as reads
-use Rattle.ranks.proofs.rising_block.Lts as lts
+use Rattle.symbols.proofs.rising_block.Statement.{statement}
+use Rattle.symbols.proofs.rising_block.Tie as tie
+use Rattle.symbols.proofs.rising_block.Reads as reads
+use Rattle.symbols.proofs.rising_block.Lts as lts
 use Rattle.std.proofs.num.wrapping_add_u8.Reads as wrapping-add-u8-reads
 
 abbrev Inv-loop : tie.InvT-loop

@@ -1,17 +1,17 @@
--- `ranks::replace_ranks` meets its contract: the entries before place k are replaced, those from there on are as they were.
+-- `symbols::replace_ranks` meets its contract: the entries before place k are replaced, those from there on are as they were.
 use mathlib.Core.Path.{_≡_, sym, ap, _∙_}
 use Prim.Native.Nat.{_-_, _≤_}
 use lib.ListN.{length}
 use Rattle.ranks.specs.Ranks.{rank}
 use Rattle.ranks.proofs.Ranked.{rank-entry}
 use Rattle.ranks.proofs.Inverse.{Replaced, replaced-none, replaced-one, replaced-all}
 use borrow.Author.Needs.{needs}
 use native.Mathlib.Omega.{arith}
-use Rattle.ranks.proofs.replace_ranks.Statement.{statement}
-use Rattle.ranks.proofs.replace_ranks.Tie as tie
-use Rattle.ranks.proofs.replace_ranks.Reads as reads
-use Rattle.ranks.proofs.replace_ranks.Lts as lts
-use Rattle.ranks.proofs.wide.Reads as wide-reads
+use Rattle.symbols.proofs.replace_ranks.Statement.{statement}
+use Rattle.symbols.proofs.replace_ranks.Tie as tie
+use Rattle.symbols.proofs.replace_ranks.Reads as reads
+use Rattle.symbols.proofs.replace_ranks.Lts as lts
+use Rattle.symbols.proofs.wide.Reads as wide-reads
 
 abbrev Inv-loop : tie.InvT-loop
 Inv-loop row₀ n bytes k₀ row k = (k ≤ n) × (n ≤ length row₀) × (length row ≡ length row₀) × Replaced bytes row₀ row k × (length bytes ≡ 256)

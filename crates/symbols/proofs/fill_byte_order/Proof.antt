@@ -1,17 +1,17 @@
--- `ranks::fill_byte_order` meets its contract: the ranks before b are written, so the half of b is its own rank.
+-- `symbols::fill_byte_order` meets its contract: the ranks before b are written, so the half of b is its own rank.
 use Prim.Native.Nat.{_+_, _-_, _*_, _/_, _%_, _≤_, _<_}
 use lib.ListN.{length, set, length-set}
 use lib.Seq.{getD-set-same}
 use Rattle.ranks.proofs.Ranked.{byte-order-lists}
 use Rattle.rows.proofs.Fill.{Filled, filled-start, filled-none, filled-up, filled-on, filled-all, right-one}
 use mathlib.Core.Path.{_≡_, refl, _∙_}
 use borrow.Author.Needs.{needs}
 use native.Mathlib.Omega.{arith}
-use Rattle.ranks.proofs.fill_byte_order.Statement.{statement}
-use Rattle.ranks.proofs.fill_byte_order.Tie as tie
-use Rattle.ranks.proofs.fill_byte_order.Reads as reads
-use Rattle.ranks.proofs.fill_byte_order.Lts as lts
-use Rattle.ranks.proofs.wide.Reads as wide-reads
+use Rattle.symbols.proofs.fill_byte_order.Statement.{statement}
+use Rattle.symbols.proofs.fill_byte_order.Tie as tie
+use Rattle.symbols.proofs.fill_byte_order.Reads as reads
+use Rattle.symbols.proofs.fill_byte_order.Lts as lts
+use Rattle.symbols.proofs.wide.Reads as wide-reads
 
 abbrev Inv-loop : tie.InvT-loop
 Inv-loop order₀ b₀ order b = (0 < b) × (b ≤ 256) × (256 ≤ length order₀) × Filled (λ k. k) 256 order₀ order 0 b

@@ -1,14 +1,14 @@
--- `ranks::none_twice` meets its contract: the marks tell which ranks stood before place k, each once.
+-- `symbols::none_twice` meets its contract: the marks tell which ranks stood before place k, each once.
 use Prim.Native.Nat.{_-_}
 use lib.ListN.{length}
 use Rattle.ranks.proofs.Marks.{Marked, marked-none, marked-one, marked-twice, marked-all}
 use borrow.Author.Needs.{needs}
 use native.Mathlib.Omega.{arith}
-use Rattle.ranks.proofs.none_twice.Statement.{statement}
-use Rattle.ranks.proofs.none_twice.Tie as tie
-use Rattle.ranks.proofs.none_twice.Reads as reads
-use Rattle.ranks.proofs.none_twice.Lts as lts
-use Rattle.ranks.proofs.wide.Reads as wide-reads
+use Rattle.symbols.proofs.none_twice.Statement.{statement}
+use Rattle.symbols.proofs.none_twice.Tie as tie
+use Rattle.symbols.proofs.none_twice.Reads as reads
+use Rattle.symbols.proofs.none_twice.Lts as lts
+use Rattle.symbols.proofs.wide.Reads as wide-reads
 
 abbrev Inv-loop : tie.InvT-loop
 Inv-loop order marks₀ k₀ marks k = Marked order marks k
