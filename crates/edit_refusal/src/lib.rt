@@ -1,6 +1,6 @@
 // The refusals of an edit that need no result, 1 to 5, tested in their order. Refusal 8 and the answer are left to other crates.
 use prefix_testing::is_last_factors;
-use reach_table::is_lyndon_array;
+use reach_testing::is_lyndon_array;
 use refusals::MAX_BLOCK;
 use refusals::MAX_PATTERN;
 ghost use mathlib.Core.Path.{_≡_};

@@ -4,7 +4,7 @@ use prefix_chain::count_prefix;
 use prefix_chain::write_prefix;
 use prefix_testing::is_last_factors;
 use symbols::test_order;
-use reach_table::is_lyndon_array;
+use reach_testing::is_lyndon_array;
 use refusals::Filled;
 use refusals::MAX_PATTERN;
 use refusals::refused;

@@ -1,7 +1,7 @@
 // The public library's two tables of a pattern. Each call tests its refusals and then calls the crate that makes the table.
 use prefix_making::make_last_factors;
 use symbols::test_order;
-use reach_table::make_lyndon_array;
+use reach_making::make_lyndon_array;
 use refusals::Filled;
 use refusals::MAX_PATTERN;
 use refusals::refused;

@@ -1,4 +1,4 @@
--- What the functions between the table and its pattern know: entries from a place on, two words beside each other, an entry found, entries tested.
+-- What the functions between the table and its pattern know: entries from a place on, two words beside each other, and an entry found.
 use mathlib.Core.Bool.{Bool, true, false}
 use mathlib.Core.List.{List}
 use mathlib.Core.Logic.{_⊎_}
@@ -32,9 +32,3 @@ pub record Beside (s : List ℕ) (i j y e : ℕ) (up : Bool) : Type 0 where
 pub record Reached (s : List ℕ) (i : ℕ) (memo : List ℕ) (r : ℕ) : Type 0 where
   pub entry : r ≡ longestAt s i
   pub remains : Memo s memo
-
--- The entries from a place on are right, or its own is wrong.
-pub record TestedTo (s table : List ℕ) (left : ℕ) (wrong : Bool) : Type 0 where
-  pub within : left ≤ length s
-  pub right : wrong ≡ false → EntriesFrom s table left
-  pub differs : wrong ≡ true → (left < length s) × (getD table left 0 ≡ longestAt s left → ⊥)

@@ -1,6 +1,6 @@
-// The reach table of a pattern, which is its Lyndon array, made into a row and tested against a row of any content, in place and from the right.
-// Words are compared plainly while that is cheap, and else with a memo, so that no pattern takes quadratic time.
-// That a row is long enough is the caller's concern.
+// An entry of the reach table, which is the Lyndon array, from the entries behind it: the word there grows by the words that follow while it is smaller.
+// Words are compared plainly while that is cheap, and else with a memo, so that no pattern takes quadratic time. Making and testing a table are
+// the concern of the crates above.
 use memo::best;
 use memo::entry;
 use memo::keep;
@@ -9,16 +9,13 @@ use symbols::below;
 use scan::shorter;
 ghost use mathlib.Core.Path.{_≡_};
 ghost use Prim.Native.Nat.{_+_, _<_, _≤_};
-ghost use lib.ListN.{length, take};
+ghost use lib.ListN.{length};
 ghost use Rattle.ranks.specs.Inner.{Ranks};
 ghost use Rattle.ranks.specs.Ranks.{ranked};
-ghost use Rattle.rows.specs.Filled.{Filled};
-ghost use Rattle.rows.specs.Row.{written};
-ghost use Rattle.words.specs.Order.{same};
-ghost use Rattle.words.specs.Tables.{longestAt, lyndonArray};
+ghost use Rattle.words.specs.Tables.{longestAt};
 ghost use Rattle.memo.specs.Memo.{Alike, Memo};
 ghost use Rattle.leaps.specs.Agrees.{Agrees};
-ghost use Rattle.reach_table.specs.Reached.{EntriesFrom, Compares, Beside, Reached, TestedTo};
+ghost use Rattle.reach_table.specs.Reached.{EntriesFrom, Compares, Beside, Reached};
 
 // How far a word agrees with the next one, and whether it is smaller.
 struct Step {
@@ -91,13 +88,13 @@ fn beside(s: &[u8], ranks: &[u8], i: usize, j: usize, y: usize, known: usize) ->
 }
 
 // The entry of a place, and how many bytes agreed where its word ended.
-struct Merged {
-    length: usize,
-    last: usize,
+pub struct Merged {
+    pub length: usize,
+    pub last: usize,
 }
 
 // The length of the longest Lyndon substring at i, from the entries of the table behind i, by comparison alone.
-fn merge_at(s: &[u8], ranks: &[u8], table: &[u16], i: usize) -> Merged
+pub fn merge_at(s: &[u8], ranks: &[u8], table: &[u16], i: usize) -> Merged
     requires { ⌜ Ranks (now ranks) × (i < length (now s)) × EntriesFrom (ranked (now ranks) (now s)) (now table) (i + 1) ⌝ }
     ensures { λ r. ⌜ r .length ≡ longestAt (ranked (now (ranks .entry)) (now (s .entry))) i ⌝ }
 {
@@ -121,7 +118,7 @@ fn merge_at(s: &[u8], ranks: &[u8], table: &[u16], i: usize) -> Merged
 }
 
 // The same with a memo: what is known of the last word taken in, which starts at i + d, tells how far i agrees with the next.
-fn longest_at(s: &[u8], ranks: &[u8], table: &[u16], i: usize, memo: &mut [u16]) -> usize
+pub fn longest_at(s: &[u8], ranks: &[u8], table: &[u16], i: usize, memo: &mut [u16]) -> usize
     requires { ⌜ Ranks (now ranks) × (i < length (now s)) × EntriesFrom (ranked (now ranks) (now s)) (now table) (i + 1) × Memo (ranked (now ranks) (now s)) (now memo) ⌝ }
     ensures { λ r. ⌜ Reached (ranked (now (ranks .entry)) (now (s .entry))) i (now (memo .exit)) r ⌝ }
 {
@@ -147,136 +144,6 @@ fn longest_at(s: &[u8], ranks: &[u8], table: &[u16], i: usize, memo: &mut [u16])
 }
 
 // What plain comparison may cost, in sixteens of bytes that agreed where a word ended: about as much as clearing the memo and a pass.
-fn allowance(s: &[u8]) -> usize {
+pub fn allowance(s: &[u8]) -> usize {
     16 + s.len() / 16
-}
-
-// Makes entries by comparison alone, from the right, for as long as that is cheap: the place from which on they are made.
-fn make_plain(s: &[u8], ranks: &[u8], table: &mut [u16]) -> usize
-    requires { ⌜ Ranks (now ranks) × (length (now s) ≤ 65535) × (length (now s) ≤ length (now table)) ⌝ }
-    ensures { λ r. ⌜ (r ≤ length (now (s .entry))) × Filled (longestAt (ranked (now (ranks .entry)) (now (s .entry)))) (length (now (s .entry))) (now (table .entry)) (now (table .exit)) r (length (now (s .entry))) ⌝ }
-{
-    let mut made = s.len();
-    let mut budget = allowance(s);
-    while 0 < made {
-        made -= 1;
-        let m = merge_at(s, ranks, table, made);
-        let l = m.length;
-        let cost = m.last / 16;
-        table[made] = l as u16;
-        if budget < cost {
-            return made;
-        }
-        budget -= cost;
-    }
-    made
-}
-
-// Makes the entries before `from`, with a true memo.
-fn make_by(s: &[u8], ranks: &[u8], table: &mut [u16], from: usize, memo: &mut [u16])
-    requires { ⌜ Ranks (now ranks) × (length (now s) ≤ 65535) × (from ≤ length (now s)) × EntriesFrom (ranked (now ranks) (now s)) (now table) from × Memo (ranked (now ranks) (now s)) (now memo) ⌝ }
-    ensures { λ _. ⌜ Filled (longestAt (ranked (now (ranks .entry)) (now (s .entry)))) (length (now (s .entry))) (now (table .entry)) (now (table .exit)) 0 (length (now (s .entry))) ⌝ }
-{
-    let mut i = from;
-    while 0 < i {
-        i -= 1;
-        let l = longest_at(s, ranks, table, i, memo);
-        table[i] = l as u16;
-    }
-}
-
-// Makes the entries before `from`, where those from there on are right.
-fn make_rest(s: &[u8], ranks: &[u8], table: &mut [u16], from: usize)
-    requires { ⌜ Ranks (now ranks) × (length (now s) ≤ 65535) × (from ≤ length (now s)) × EntriesFrom (ranked (now ranks) (now s)) (now table) from ⌝ }
-    ensures { λ _. ⌜ Filled (longestAt (ranked (now (ranks .entry)) (now (s .entry)))) (length (now (s .entry))) (now (table .entry)) (now (table .exit)) 0 (length (now (s .entry))) ⌝ }
-{
-    let mut memo = [0u16; 1024];
-    make_by(s, ranks, table, from, &mut memo);
-}
-
-pub fn make_lyndon_array(s: &[u8], ranks: &[u8], table: &mut [u16])
-    requires { ⌜ Ranks (now ranks) × (length (now s) ≤ 65535) × (length (now s) ≤ length (now table)) ⌝ }
-    ensures { λ _. ⌜ now (table .exit) ≡ written (lyndonArray (ranked (now (ranks .entry)) (now (s .entry)))) (now (table .entry)) ⌝ }
-{
-    let left = make_plain(s, ranks, table);
-    if 0 < left {
-        make_rest(s, ranks, table, left);
-    }
-}
-
-// How far entries were tested, and whether the one there is wrong.
-struct Tested {
-    left: usize,
-    wrong: bool,
-}
-
-// Tests entries by comparison alone, from the right, for as long as that is cheap.
-fn test_plain(s: &[u8], ranks: &[u8], table: &[u16]) -> Tested
-    requires { ⌜ Ranks (now ranks) × (length (now s) ≤ length (now table)) ⌝ }
-    ensures { λ r. ⌜ TestedTo (ranked (now (ranks .entry)) (now (s .entry))) (now (table .entry)) (r .left) (r .wrong) ⌝ }
-{
-    let mut tested = s.len();
-    let mut budget = allowance(s);
-    while 0 < tested {
-        tested -= 1;
-        let m = merge_at(s, ranks, table, tested);
-        let cost = m.last / 16;
-        if entry(table, tested) != m.length {
-            return Tested {
-                left: tested,
-                wrong: true,
-            };
-        }
-        if budget < cost {
-            return Tested {
-                left: tested,
-                wrong: false,
-            };
-        }
-        budget -= cost;
-    }
-    Tested {
-        left: tested,
-        wrong: false,
-    }
-}
-
-// Whether the entries before `from` are right, with a true memo, where those from there on are.
-fn test_by(s: &[u8], ranks: &[u8], table: &[u16], from: usize, memo: &mut [u16]) -> bool
-    requires { ⌜ Ranks (now ranks) × (from ≤ length (now s)) × EntriesFrom (ranked (now ranks) (now s)) (now table) from × Memo (ranked (now ranks) (now s)) (now memo) ⌝ }
-    ensures { λ r. ⌜ r ≡ same (take (length (now (s .entry))) (now (table .entry))) (lyndonArray (ranked (now (ranks .entry)) (now (s .entry)))) ⌝ }
-{
-    let mut left = from;
-    while 0 < left {
-        left -= 1;
-        let l = longest_at(s, ranks, table, left, memo);
-        if entry(table, left) != l {
-            return false;
-        }
-    }
-    true
-}
-
-// The same, with a new memo.
-fn test_rest(s: &[u8], ranks: &[u8], table: &[u16], from: usize) -> bool
-    requires { ⌜ Ranks (now ranks) × (from ≤ length (now s)) × EntriesFrom (ranked (now ranks) (now s)) (now table) from ⌝ }
-    ensures { λ r. ⌜ r ≡ same (take (length (now (s .entry))) (now (table .entry))) (lyndonArray (ranked (now (ranks .entry)) (now (s .entry)))) ⌝ }
-{
-    let mut memo = [0u16; 1024];
-    test_by(s, ranks, table, from, &mut memo)
-}
-
-// Whether the first entries of the table are the pattern's Lyndon array.
-pub fn is_lyndon_array(s: &[u8], ranks: &[u8], table: &[u16]) -> bool
-    requires { ⌜ Ranks (now ranks) × (length (now s) ≤ length (now table)) ⌝ }
-    ensures { λ r. ⌜ r ≡ same (take (length (now (s .entry))) (now (table .entry))) (lyndonArray (ranked (now (ranks .entry)) (now (s .entry)))) ⌝ }
-{
-    let t = test_plain(s, ranks, table);
-    if t.wrong {
-        return false;
-    }
-    if t.left == 0 {
-        return true;
-    }
-    test_rest(s, ranks, table, t.left)
 }

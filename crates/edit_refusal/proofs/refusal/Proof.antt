@@ -12,7 +12,7 @@ use Rattle.edit_refusal.proofs.refusal.Tie as tie
 use Rattle.edit_refusal.proofs.refusal.Reads as reads
 use Rattle.edit_refusal.proofs.refusal.Lts as lts
 use Rattle.prefix_testing.proofs.is_last_factors.Reads as is-last-factors-reads
-use Rattle.reach_table.proofs.is_lyndon_array.Reads as is-lyndon-array-reads
+use Rattle.reach_testing.proofs.is_lyndon_array.Reads as is-lyndon-array-reads
 
 returns : tie.Need-returns
 returns c =

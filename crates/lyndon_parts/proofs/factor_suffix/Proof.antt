@@ -13,7 +13,7 @@ use Rattle.lyndon_parts.proofs.factor_suffix.Tie as tie
 use Rattle.lyndon_parts.proofs.factor_suffix.Reads as reads
 use Rattle.lyndon_parts.proofs.factor_suffix.Lts as lts
 use Rattle.symbols.proofs.test_order.Reads as test-order-reads
-use Rattle.reach_table.proofs.is_lyndon_array.Reads as is-lyndon-array-reads
+use Rattle.reach_testing.proofs.is_lyndon_array.Reads as is-lyndon-array-reads
 use Rattle.refusals.proofs.refused.Reads as refused-reads
 use Rattle.suffix_chain.proofs.count_suffix.Reads as count-suffix-reads
 use Rattle.suffix_chain.proofs.write_suffix.Reads as write-suffix-reads

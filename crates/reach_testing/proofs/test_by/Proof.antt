@@ -1,4 +1,4 @@
--- `reach_table::test_by` meets its contract: the entries from `left` on are right.
+-- `reach_testing::test_by` meets its contract: the entries from `left` on are right.
 use mathlib.Core.Path.{_≡_, refl, _∙_}
 use lib.ListN.{length}
 use Rattle.words.specs.Tables.{longestAt}
@@ -6,16 +6,16 @@ use Rattle.ranks.specs.Ranks.{ranked}
 use Rattle.ranks.proofs.Ranked.{length-ranked}
 use Rattle.rows.proofs.Fill.{Right, right-one, right-join, tested-all, tested-wrong}
 use Rattle.memo.specs.Memo.{Memo}
 use Rattle.reach_table.proofs.Reach.{lyndon-table}
 use Prim.Native.Nat.{_-_, _≤_}
 use borrow.Author.Needs.{needs}
 use native.Mathlib.Omega.{arith}
-use Rattle.reach_table.proofs.test_by.Statement.{statement}
-use Rattle.reach_table.proofs.test_by.Tie as tie
-use Rattle.reach_table.proofs.test_by.Reads as reads
-use Rattle.reach_table.proofs.test_by.Lts as lts
+use Rattle.reach_testing.proofs.test_by.Statement.{statement}
+use Rattle.reach_testing.proofs.test_by.Tie as tie
+use Rattle.reach_testing.proofs.test_by.Reads as reads
+use Rattle.reach_testing.proofs.test_by.Lts as lts
 use Rattle.memo.proofs.entry.Reads as entry-reads
 use Rattle.reach_table.proofs.longest_at.Reads as longest-at-reads
 
 abbrev Inv-loop : tie.InvT-loop
 Inv-loop s ranks table from memo₀ left₀ memo left =

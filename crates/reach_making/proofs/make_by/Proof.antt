@@ -1,4 +1,4 @@
--- `reach_table::make_by` meets its contract: the entries from i on are made, from the last to the first.
+-- `reach_making::make_by` meets its contract: the entries from i on are made, from the last to the first.
 use mathlib.Core.Path.{_≡_, refl, _∙_}
 use lib.ListN.{length}
 use Rattle.words.specs.Tables.{longestAt}
@@ -10,11 +10,11 @@ use Rattle.memo.specs.Memo.{Memo}
 use Prim.Native.Nat.{_-_, _≤_}
 use borrow.Author.Needs.{needs}
 use native.Mathlib.Omega.{arith}
-use Rattle.reach_table.proofs.make_by.Statement.{statement}
-use Rattle.reach_table.proofs.make_by.Tie as tie
-use Rattle.reach_table.proofs.make_by.Reads as reads
-use Rattle.reach_table.proofs.make_by.Lts as lts
+use Rattle.reach_making.proofs.make_by.Statement.{statement}
+use Rattle.reach_making.proofs.make_by.Tie as tie
+use Rattle.reach_making.proofs.make_by.Reads as reads
+use Rattle.reach_making.proofs.make_by.Lts as lts
 use Rattle.reach_table.proofs.longest_at.Reads as longest-at-reads
 
 abbrev Inv-loop : tie.InvT-loop
 Inv-loop s ranks table₀ from memo₀ i₀ table memo i =

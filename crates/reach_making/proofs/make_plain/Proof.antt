@@ -1,4 +1,4 @@
--- `reach_table::make_plain` meets its contract: the entries from `made` on are made.
+-- `reach_making::make_plain` meets its contract: the entries from `made` on are made.
 use mathlib.Core.Path.{_≡_}
 use lib.ListN.{length, length-set}
 use Rattle.words.specs.Tables.{longestAt}
@@ -9,12 +9,12 @@ use Rattle.rows.proofs.Fill.{Filled, filled-none, filled-down}
 use Prim.Native.Nat.{_-_, _≤_}
 use borrow.Author.Needs.{needs}
 use native.Mathlib.Omega.{arith}
-use Rattle.reach_table.proofs.make_plain.Statement.{statement}
-use Rattle.reach_table.proofs.make_plain.Tie as tie
-use Rattle.reach_table.proofs.make_plain.Reads as reads
-use Rattle.reach_table.proofs.make_plain.Lts as lts
+use Rattle.reach_making.proofs.make_plain.Statement.{statement}
+use Rattle.reach_making.proofs.make_plain.Tie as tie
+use Rattle.reach_making.proofs.make_plain.Reads as reads
+use Rattle.reach_making.proofs.make_plain.Lts as lts
 use Rattle.reach_table.proofs.allowance.Reads as allowance-reads
 use Rattle.reach_table.proofs.merge_at.Reads as merge-at-reads
 
 abbrev Inv-loop : tie.InvT-loop
 Inv-loop s ranks table₀ made₀ budget₀ table made budget =

@@ -1,4 +1,4 @@
--- `reach_table::test_plain` meets its contract: the entries from `tested` on are right.
+-- `reach_testing::test_plain` meets its contract: the entries from `tested` on are right.
 use mathlib.Core.Path.{_≡_, refl}
 use lib.ListN.{length}
 use Rattle.words.specs.Tables.{longestAt}
@@ -9,13 +9,13 @@ use Rattle.rows.proofs.Fill.{Right, right-none, right-one, right-join}
 use Prim.Native.Nat.{_-_, _≤_}
 use borrow.Author.Needs.{needs}
 use native.Mathlib.Omega.{arith}
-use Rattle.reach_table.proofs.test_plain.Statement.{statement}
-use Rattle.reach_table.proofs.test_plain.Tie as tie
-use Rattle.reach_table.proofs.test_plain.Reads as reads
-use Rattle.reach_table.proofs.test_plain.Lts as lts
+use Rattle.reach_testing.proofs.test_plain.Statement.{statement}
+use Rattle.reach_testing.proofs.test_plain.Tie as tie
+use Rattle.reach_testing.proofs.test_plain.Reads as reads
+use Rattle.reach_testing.proofs.test_plain.Lts as lts
 use Rattle.memo.proofs.entry.Reads as entry-reads
 use Rattle.reach_table.proofs.allowance.Reads as allowance-reads
 use Rattle.reach_table.proofs.merge_at.Reads as merge-at-reads
 
 abbrev Inv-loop : tie.InvT-loop
 Inv-loop s ranks table tested₀ budget₀ tested budget = (tested ≤ length s) × Right (longestAt (ranked ranks s)) table tested (length s) × (length (ranked ranks s) ≡ length s)

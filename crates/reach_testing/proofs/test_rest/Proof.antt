@@ -1,12 +1,12 @@
--- `reach_table::test_rest` meets its contract: the memo begins as zeros.
+-- `reach_testing::test_rest` meets its contract: the memo begins as zeros.
 use Rattle.ranks.specs.Ranks.{ranked}
 use Rattle.memo.proofs.Slots.{memo-start}
 use borrow.Author.Needs.{needs}
-use Rattle.reach_table.proofs.test_rest.Statement.{statement}
-use Rattle.reach_table.proofs.test_rest.Tie as tie
-use Rattle.reach_table.proofs.test_rest.Reads as reads
-use Rattle.reach_table.proofs.test_rest.Lts as lts
-use Rattle.reach_table.proofs.test_by.Reads as test-by-reads
+use Rattle.reach_testing.proofs.test_rest.Statement.{statement}
+use Rattle.reach_testing.proofs.test_rest.Tie as tie
+use Rattle.reach_testing.proofs.test_rest.Reads as reads
+use Rattle.reach_testing.proofs.test_rest.Lts as lts
+use Rattle.reach_testing.proofs.test_by.Reads as test-by-reads
 
 slice-aggregate-test-by : tie.Need-slice-aggregate-test-by
 slice-aggregate-test-by c = search needs

@@ -1,16 +1,16 @@
--- `reach_table::make_lyndon_array` meets its contract: what is left is made with the memo.
+-- `reach_making::make_lyndon_array` meets its contract: what is left is made with the memo.
 use mathlib.Core.Path.{_≡_}
 use native.Mathlib.Omega.{arith}
 use Rattle.ranks.proofs.Ranked.{length-ranked}
 use Rattle.rows.proofs.Fill.{filled-on, filled-all}
 use Rattle.reach_table.proofs.Reach.{lyndon-table}
 use borrow.Author.Needs.{needs}
-use Rattle.reach_table.proofs.make_lyndon_array.Statement.{statement}
-use Rattle.reach_table.proofs.make_lyndon_array.Tie as tie
-use Rattle.reach_table.proofs.make_lyndon_array.Reads as reads
-use Rattle.reach_table.proofs.make_lyndon_array.Lts as lts
-use Rattle.reach_table.proofs.make_plain.Reads as make-plain-reads
-use Rattle.reach_table.proofs.make_rest.Reads as make-rest-reads
+use Rattle.reach_making.proofs.make_lyndon_array.Statement.{statement}
+use Rattle.reach_making.proofs.make_lyndon_array.Tie as tie
+use Rattle.reach_making.proofs.make_lyndon_array.Reads as reads
+use Rattle.reach_making.proofs.make_lyndon_array.Lts as lts
+use Rattle.reach_making.proofs.make_plain.Reads as make-plain-reads
+use Rattle.reach_making.proofs.make_rest.Reads as make-rest-reads
 
 make-plain-requires : tie.Need-make-plain-requires
 make-plain-requires c κs = search needs

@@ -1,12 +1,12 @@
--- `reach_table::make_rest` meets its contract: the memo begins as zeros.
+-- `reach_making::make_rest` meets its contract: the memo begins as zeros.
 use Rattle.ranks.specs.Ranks.{ranked}
 use Rattle.memo.proofs.Slots.{memo-start}
 use borrow.Author.Needs.{needs}
-use Rattle.reach_table.proofs.make_rest.Statement.{statement}
-use Rattle.reach_table.proofs.make_rest.Tie as tie
-use Rattle.reach_table.proofs.make_rest.Reads as reads
-use Rattle.reach_table.proofs.make_rest.Lts as lts
-use Rattle.reach_table.proofs.make_by.Reads as make-by-reads
+use Rattle.reach_making.proofs.make_rest.Statement.{statement}
+use Rattle.reach_making.proofs.make_rest.Tie as tie
+use Rattle.reach_making.proofs.make_rest.Reads as reads
+use Rattle.reach_making.proofs.make_rest.Lts as lts
+use Rattle.reach_making.proofs.make_by.Reads as make-by-reads
 
 slice-aggregate-make-by : tie.Need-slice-aggregate-make-by
 slice-aggregate-make-by c = search needs

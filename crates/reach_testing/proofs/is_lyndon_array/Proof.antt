@@ -1,15 +1,15 @@
--- `reach_table::is_lyndon_array` meets its contract: what is left is tested with the memo.
+-- `reach_testing::is_lyndon_array` meets its contract: what is left is tested with the memo.
 use mathlib.Core.Path.{_≡_}
 use Rattle.ranks.proofs.Ranked.{length-ranked}
 use Rattle.rows.proofs.Fill.{tested-all, tested-wrong}
 use Rattle.reach_table.proofs.Reach.{lyndon-table}
 use borrow.Author.Needs.{needs}
-use Rattle.reach_table.proofs.is_lyndon_array.Statement.{statement}
-use Rattle.reach_table.proofs.is_lyndon_array.Tie as tie
-use Rattle.reach_table.proofs.is_lyndon_array.Reads as reads
-use Rattle.reach_table.proofs.is_lyndon_array.Lts as lts
-use Rattle.reach_table.proofs.test_plain.Reads as test-plain-reads
-use Rattle.reach_table.proofs.test_rest.Reads as test-rest-reads
+use Rattle.reach_testing.proofs.is_lyndon_array.Statement.{statement}
+use Rattle.reach_testing.proofs.is_lyndon_array.Tie as tie
+use Rattle.reach_testing.proofs.is_lyndon_array.Reads as reads
+use Rattle.reach_testing.proofs.is_lyndon_array.Lts as lts
+use Rattle.reach_testing.proofs.test_plain.Reads as test-plain-reads
+use Rattle.reach_testing.proofs.test_rest.Reads as test-rest-reads
 
 test-plain-requires : tie.Need-test-plain-requires
 test-plain-requires c κs = search needs
