@@ -12,10 +12,10 @@ use Rattle.words.proofs.Bounded.{le-or-lt, true-or-false}
 use Rattle.refusals.proofs.First.{First, none, holds, too-long, not-long, not-short, first-is}
 use Rattle.refusals.specs.Refusals.{Refusal, firstOf, unlessRefused, rowAfter, maxPattern, patternTooLong, tooShort}
 use Rattle.refusals.specs.declared.Filled.{Filled}
-use Rattle.block.specs.Block.{bytesPlace, bytesCount, blockBytes, isBlock, blockOf}
+use Rattle.block_parts.specs.Block.{bytesPlace, bytesCount, blockBytes, isBlock, blockOf}
 use Rattle.block.specs.Calls.{notBlock, readRefusals, BlockRead, BlockWritten}
 use Rattle.block.specs.declared.Extent.{Extent}
-use Rattle.block.proofs.Placed.{block-length}
+use Rattle.block_parts.proofs.Placed.{block-length}
 use Rattle.block.proofs.Theorems.{written-read, Rewritten, read-written}
 
 -- what an accepted call was given

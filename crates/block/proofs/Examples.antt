@@ -5,7 +5,7 @@ use Prim.Native.Nat.{ℕ}
 use lib.ListN.{replicate}
 use Rattle.decimal.specs.Decimal.{codes, decimal, digitCount}
 use Rattle.refusals.specs.Refusals.{firstOf}
-use Rattle.block.specs.Block.{isBlock, bytesPlace, bytesCount, blockBytes, blockOf}
+use Rattle.block_parts.specs.Block.{isBlock, bytesPlace, bytesCount, blockBytes, blockOf}
 use Rattle.block.specs.Calls.{readRefusals}
 
 -- the number of the refusal, the place and the count

@@ -12,12 +12,12 @@ use Rattle.rows.proofs.Written.{written-two}
 use Rattle.rows.proofs.Puts.{puts-then}
 use Rattle.refusals.proofs.First.{First, none, holds, passes, too-long, not-long, first-is}
 use Rattle.refusals.specs.Refusals.{firstOf, unlessRefused, maxPattern}
-use Rattle.block.specs.Block.{Block, bytesPlace, bytesCount, blockBytes, blockOf}
+use Rattle.block_parts.specs.Block.{Block, bytesPlace, bytesCount, blockBytes, blockOf}
 use Rattle.block.specs.Calls.{readRefusals, notBlock, BlockRead}
-use Rattle.block.specs.Inner.{NoBlock}
+use Rattle.block_parts.specs.Inner.{NoBlock}
 use Rattle.block.specs.declared.Extent.{Extent}
-use Rattle.block.proofs.Placed.{decimal-one}
-use Rattle.block.proofs.Tested.{block-test, block-place, block-count, block-holds, no-block}
+use Rattle.block_parts.proofs.Placed.{decimal-one}
+use Rattle.block_parts.proofs.Tested.{block-test, block-place, block-count, block-holds, no-block}
 
 module _ {block : List ℕ} where
   pub first-nine : NoBlock block → firstOf (readRefusals block) ≡ 9

@@ -11,10 +11,10 @@ use Rattle.decimal.specs.Decimal.{codes, decimal, read}
 use Rattle.decimal.proofs.Decimal.{length-decimal, count-least, decimal-text, read-nine}
 use Rattle.decimal.proofs.Zeros.{digits-padded}
 use Rattle.refusals.specs.Refusals.{firstOf, maxPattern}
-use Rattle.block.specs.Block.{Block, bytesPlace, bytesCount, blockBytes, isBlock, blockOf}
+use Rattle.block_parts.specs.Block.{Block, bytesPlace, bytesCount, blockBytes, isBlock, blockOf}
 use Rattle.block.specs.Calls.{readRefusals}
 use Rattle.block.proofs.Outcome.{first-none, few-digits, length-block}
-use Rattle.block.proofs.Tested.{test-block, block-test, block-place, block-count, block-holds, block-counts, block-ends}
+use Rattle.block_parts.proofs.Tested.{test-block, block-test, block-place, block-count, block-holds, block-counts, block-ends}
 
 -- the test is right, and the functions give the parts
 pub tested-block : (block : List ℕ) → isBlock block ≡ true → Block block (bytesPlace block) (bytesCount block)

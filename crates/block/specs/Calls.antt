@@ -7,7 +7,7 @@ use lib.ListN.{length}
 use Rattle.refusals.specs.Filled.{Fills}
 use Rattle.refusals.specs.declared.Filled.{Filled}
 use Rattle.refusals.specs.Refusals.{Refusal, firstOf, unlessRefused, patternTooLong, tooShort}
-use Rattle.block.specs.Block.{isBlock, bytesPlace, bytesCount, blockBytes, blockOf}
+use Rattle.block_parts.specs.Block.{isBlock, bytesPlace, bytesCount, blockBytes, blockOf}
 use Rattle.block.specs.declared.Extent.{Extent}
 
 -- The bytes are no definite length block. It is tested before 1.

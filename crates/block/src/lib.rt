@@ -1,95 +1,21 @@
-// The public calls on definite length blocks of IEEE 488.2: where the bytes of a block are, and a pattern written as a block. The digits
-// are read and written by `decimal`. None of the calls requires anything.
+// The public calls on definite length blocks of IEEE 488.2: where the bytes of a block are, which `block_parts` finds, and a pattern written as a
+// block. None of the calls requires anything.
+use block_parts::Located;
+use block_parts::locate;
 use decimal::digit_count;
-use decimal::leading_digits;
-use decimal::value_of;
 use decimal::write_decimal;
 use refusals::Filled;
 use refusals::MAX_PATTERN;
 use refusals::refused;
 use rows::write_bytes;
 ghost use mathlib.Core.Path.{_≡_};
-ghost use Rattle.block.specs.Block.{endsAt};
 ghost use Rattle.block.specs.Calls.{BlockRead, BlockWritten};
-ghost use Rattle.block.specs.Inner.{HeaderOf, Locates};
 
 // The answer about a block: the place of its bytes within it, and their count.
 pub struct Extent {
     pub refusal: u8,
     pub place: usize,
     pub count: usize,
-}
-
-// What the byte after the hash mark says: how many digits follow, that no count is given, or nothing.
-enum Header {
-    Definite(usize),
-    Indefinite,
-    Other,
-}
-
-struct Span {
-    place: usize,
-    count: usize,
-}
-
-enum Located {
-    Bytes(Span),
-    Nowhere,
-}
-
-fn header_of(c: u8) -> Header
-    ensures { λ r. ⌜ HeaderOf c r ⌝ }
-{
-    match c {
-        b'1'..=b'9' => Header::Definite((c - b'0') as usize),
-        b'0' => Header::Indefinite,
-        _ => Header::Other,
-    }
-}
-
-// Whether the block ends at this place, or has one line feed there.
-fn ends_at(block: &[u8], end: usize) -> bool
-    ensures { λ r. ⌜ r ≡ endsAt end (now (block .entry)) ⌝ }
-{
-    if block.len() < end {
-        return false;
-    }
-    let behind = block.len() - end;
-    if behind == 0 {
-        return true;
-    }
-    if 1 < behind {
-        return false;
-    }
-    block[end] == b'\n'
-}
-
-// Where the bytes of a block are, however many they are.
-fn locate(block: &[u8]) -> Located
-    ensures { λ r. ⌜ Locates (now (block .entry)) r ⌝ }
-{
-    let size = block.len();
-    if size < 2 {
-        return Located::Nowhere;
-    }
-    if block[0] != b'#' {
-        return Located::Nowhere;
-    }
-    let Header::Definite(digits) = header_of(block[1]) else {
-        return Located::Nowhere;
-    };
-    let place = 2 + digits;
-    if size < place {
-        return Located::Nowhere;
-    }
-    if leading_digits(&block[2..place]) < digits {
-        return Located::Nowhere;
-    }
-    let count = value_of(&block[2..place]);
-    if !ends_at(block, place + count) {
-        return Located::Nowhere;
-    }
-    Located::Bytes(Span { place, count })
 }
 
 // What the reader answers where this number refuses it.

@@ -21,7 +21,7 @@ use Rattle.longest.specs.declared.Longest.{Longest}
 use Rattle.seams.proofs.Meets.{edited-short}
 use Rattle.edit.specs.Core.{countsOf, roomRefusals}
 use Rattle.edit.specs.Inner.{maxMiddle, FillsNumbers}
-use Rattle.edit.specs.Rows.{Between}
+use Rattle.edit_rows.specs.Rows.{Between}
 use Rattle.seams.specs.Seams.{Accepted, planOf}
 use Rattle.edit.specs.declared.Counts.{Counts}
 use Rattle.edit.specs.declared.Answer.the-variants.{Done, Refused}

@@ -1,4 +1,3 @@
--- Reading order: Core; Inner and Rows are between the crates.
+-- Reading order: Core; Inner is between the crates.
 pub mod Core
 pub mod Inner
-pub mod Rows

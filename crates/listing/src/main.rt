@@ -3,9 +3,9 @@
 use libc::STDIN_FILENO;
 use libc::STDOUT_FILENO;
 use lyndon_text::write_listing;
+use refusals::MAX_PATTERN;
 use symbols::ORDER;
 use symbols::fill_byte_order;
-use refusals::MAX_PATTERN;
 use text::MAX_LISTING;
 use text::write_refusal;
 ghost use Prim.Native.Nat.{_≤_};

@@ -2,12 +2,12 @@
 // Each call tests its refusals in the order that its comment names and then calls the crate that does the work; none of them requires anything.
 use factoring::count_groups;
 use factoring::fill_groups;
-use symbols::ORDER;
-use symbols::fill_byte_order;
-use symbols::test_order;
 use refusals::Filled;
 use refusals::MAX_PATTERN;
 use refusals::refused;
+use symbols::ORDER;
+use symbols::fill_byte_order;
+use symbols::test_order;
 ghost use Rattle.lyndon.specs.Calls.{Factored, ByteOrderWritten};
 
 // The groups of the pattern's factors, three numbers each: start, factor length, power. Refusals 13, 1, 8.

@@ -1,7 +1,7 @@
 // The public library's comparison of two strings. It tests its refusals and then calls `scan`, whose comparison the whole engine uses.
-use symbols::test_order;
 use refusals::MAX_PATTERN;
 use scan::Compared;
+use symbols::test_order;
 ghost use mathlib.Core.Path.{_≡_};
 ghost use Rattle.lyndon_compare.specs.Calls.{comparison};
 

@@ -3,13 +3,13 @@
 use prefix_chain::count_prefix;
 use prefix_chain::write_prefix;
 use prefix_testing::is_last_factors;
-use symbols::test_order;
 use reach_testing::is_lyndon_array;
 use refusals::Filled;
 use refusals::MAX_PATTERN;
 use refusals::refused;
 use suffix_chain::count_suffix;
 use suffix_chain::write_suffix;
+use symbols::test_order;
 ghost use Rattle.lyndon_parts.specs.Calls.{PrefixFactored, SuffixFactored};
 
 // The groups of the factors of the first `end` bytes, from the pattern's prefix table. Refusals 13, 1, 2, 5, 8.

@@ -1,12 +1,12 @@
 // The public library's way back from a wanted reach table to a pattern that has it. It tests its refusals and then calls `realisation`.
-use symbols::bytes_of;
-use symbols::replace_ranks;
-use symbols::test_order;
 use realisation::nests;
 use realisation::write_symbols;
 use refusals::Filled;
 use refusals::MAX_WANTED;
 use refusals::refused;
+use symbols::bytes_of;
+use symbols::replace_ranks;
+use symbols::test_order;
 ghost use Rattle.lyndon_wanted.specs.Calls.{ArrayRealised};
 
 // A pattern whose reach table is the wanted one; where there are several, one of them. Refusals 13, 11, 12, 8.

@@ -2,8 +2,8 @@
 // Each call answers the first of its refusals, in their order, and leaves the work to `longest`; none of them requires anything.
 use longest::measure;
 use longest::write_longest;
-use symbols::test_order;
 use refusals::MAX_PATTERN;
+use symbols::test_order;
 ghost use mathlib.Core.Path.{_≡_};
 ghost use Rattle.lyndon_words.specs.Calls.{StartsListed, wordPlace, WordCut};
 

@@ -14,8 +14,8 @@ use lyndon_rotation::Position;
 use lyndon_test::Verdict;
 use lyndon_words::Starts;
 use lyndon_words::WordPlace;
-use symbols::test_order;
 use refusals::Filled;
+use symbols::test_order;
 
 // A word or a row of up to so many elements is printed whole.
 const WHOLE: usize = 70;

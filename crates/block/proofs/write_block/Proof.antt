@@ -5,7 +5,7 @@ use native.Mathlib.Omega.{arith}
 use lib.ListN.{length, set, length-set}
 use Rattle.refusals.proofs.First.{none, too-long, not-long, too-short, not-short}
 use Rattle.refusals.proofs.Outcome.{fills-refused, fills-accepted}
-use Rattle.block.specs.Block.{blockOf}
+use Rattle.block_parts.specs.Block.{blockOf}
 use Rattle.block.proofs.Outcome.{few-digits, length-block, block-put}
 use borrow.Author.Needs.{needs}
 use Rattle.block.proofs.write_block.Statement.{statement}

@@ -8,7 +8,7 @@ use Rattle.edit.proofs.fill.Statement.{statement}
 use Rattle.edit.proofs.fill.Tie as tie
 use Rattle.edit.proofs.fill.Reads as reads
 use Rattle.edit.proofs.fill.Lts as lts
-use Rattle.edit.proofs.write_rows.Reads as write-rows-reads
+use Rattle.edit_rows.proofs.write_rows.Reads as write-rows-reads
 use Rattle.seams.proofs.plan.Reads as plan-reads
 
 plan-requires : tie.Need-plan-requires

@@ -3,11 +3,11 @@ use mathlib.Core.List.{List}
 use mathlib.Core.Logic.{_⊎_}
 use mathlib.Core.Path.{_≡_}
 use Prim.Native.Nat.{ℕ, _+_, _≤_, _<_}
-use Rattle.block.specs.Block.{Block}
-use Rattle.block.specs.declared.Header.{Header}
-use Rattle.block.specs.declared.Header.the-variants.{Definite, Indefinite, Other}
-use Rattle.block.specs.declared.Located.{Located}
-use Rattle.block.specs.declared.Located.the-variants.{Bytes, Nowhere}
+use Rattle.block_parts.specs.Block.{Block}
+use Rattle.block_parts.specs.declared.Header.{Header}
+use Rattle.block_parts.specs.declared.Header.the-variants.{Definite, Indefinite, Other}
+use Rattle.block_parts.specs.declared.Located.{Located}
+use Rattle.block_parts.specs.declared.Located.the-variants.{Bytes, Nowhere}
 
 abbrev pub HeaderOf : ℕ → Header → Type 0
 HeaderOf c (Definite digits) = (c ≡ 48 + digits) × (1 ≤ digits) × (digits ≤ 9)

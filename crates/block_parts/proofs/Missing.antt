@@ -10,10 +10,10 @@ use lib.Seq.{length-take-le}
 use Rattle.decimal.specs.Decimal.{read, Digits}
 use Rattle.decimal.specs.Leading.{Leading}
 use Rattle.words.proofs.Bounded.{true-false}
-use Rattle.block.specs.Block.{Block, endsAt}
-use Rattle.block.specs.Inner.{NoBlock}
-use Rattle.block.proofs.Ends.{ends-true, true-ends}
-use Rattle.block.proofs.Placed.{Placed, block-placed, placed-block}
+use Rattle.block_parts.specs.Block.{Block, endsAt}
+use Rattle.block_parts.specs.Inner.{NoBlock}
+use Rattle.block_parts.proofs.Ends.{ends-true, true-ends}
+use Rattle.block_parts.proofs.Placed.{Placed, block-placed, placed-block}
 
 -- what the byte after the hash mark must be
 pub not-said : {x n c : ℕ} {block : List ℕ} → (x ≡ 48) ⊎ ((x < 48) ⊎ (57 < x)) → getD block 1 0 ≡ x → Placed block n c → ⊥

@@ -1,17 +1,17 @@
--- `edit::write_rows` meets its contract: the groups of the middle, and the starts as one run or in three parts.
+-- `edit_rows::write_rows` meets its contract: the groups of the middle, and the starts as one run or in three parts.
 use Prim.Native.Nat.{_≤_}
 use lib.ListN.{length, take}
 use native.Mathlib.Omega.{arith}
 use Rattle.ranks.specs.Ranks.{ranked}
 use Rattle.ranks.proofs.Ranked.{length-ranked, ranked-take}
 use Rattle.longest.proofs.Writes.{run-written}
-use Rattle.edit.proofs.Rows.{bytes-front, bytes-middle, groups-asks, first-asks, middle-asks, last-asks, parts-written}
+use Rattle.edit_rows.proofs.Rows.{bytes-front, bytes-middle, groups-asks, first-asks, middle-asks, last-asks, parts-written}
 use borrow.Author.Needs.{needs}
-use Rattle.edit.proofs.write_rows.Statement.{statement}
-use Rattle.edit.proofs.write_rows.Tie as tie
-use Rattle.edit.proofs.write_rows.Reads as reads
-use Rattle.edit.proofs.write_rows.Lts as lts
-use Rattle.edit.proofs.write_middle.Reads as write-middle-reads
+use Rattle.edit_rows.proofs.write_rows.Statement.{statement}
+use Rattle.edit_rows.proofs.write_rows.Tie as tie
+use Rattle.edit_rows.proofs.write_rows.Reads as reads
+use Rattle.edit_rows.proofs.write_rows.Lts as lts
+use Rattle.edit_rows.proofs.write_middle.Reads as write-middle-reads
 use Rattle.factoring.proofs.fill_groups.Reads as fill-groups-reads
 use Rattle.longest.proofs.write_run.Reads as write-run-reads
 use Rattle.longest.proofs.write_starts.Reads as write-starts-reads

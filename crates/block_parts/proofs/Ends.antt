@@ -13,7 +13,7 @@ use Rattle.decimal.specs.Decimal.{codes}
 use Rattle.words.specs.Order.{same}
 use Rattle.words.proofs.Bounded.{and-true}
 use Rattle.words.proofs.Order.{same-true, false-same}
-use Rattle.block.specs.Block.{endsAt}
+use Rattle.block_parts.specs.Block.{endsAt}
 
 pub true-and : {a b : Bool} → a ≡ true → b ≡ true → (a && b) ≡ true
 true-and e f = rw (e, f) refl

@@ -8,7 +8,7 @@ use lib.ListN.{length, take, drop, getD, length-append, length-drop, take-append
 use lib.Seq.{drop-cons, drop-drop, drop-at, take-at, length-take-le}
 use Rattle.decimal.specs.Decimal.{codes, decimal, read, Digits}
 use Rattle.decimal.proofs.Decimal.{count-one}
-use Rattle.block.specs.Block.{Block}
+use Rattle.block_parts.specs.Block.{Block}
 
 -- n digits say that there are c bytes
 pub record Placed (block : List ℕ) (n c : ℕ) : Type 0 where

@@ -1,11 +1,11 @@
--- `block::ends_at` meets its contract: before the end, at it, two or more bytes behind it, or one.
+-- `block_parts::ends_at` meets its contract: before the end, at it, two or more bytes behind it, or one.
 use native.Mathlib.Omega.{arith}
-use Rattle.block.proofs.Ends.{ends-before, ends-there, ends-later, ends-feed}
+use Rattle.block_parts.proofs.Ends.{ends-before, ends-there, ends-later, ends-feed}
 use borrow.Author.Needs.{needs}
-use Rattle.block.proofs.ends_at.Statement.{statement}
-use Rattle.block.proofs.ends_at.Tie as tie
-use Rattle.block.proofs.ends_at.Reads as reads
-use Rattle.block.proofs.ends_at.Lts as lts
+use Rattle.block_parts.proofs.ends_at.Statement.{statement}
+use Rattle.block_parts.proofs.ends_at.Tie as tie
+use Rattle.block_parts.proofs.ends_at.Reads as reads
+use Rattle.block_parts.proofs.ends_at.Lts as lts
 
 returns : tie.Need-returns
 returns c =

@@ -1,4 +1,4 @@
--- `edit::write_middle` meets its contract: what is still to be written are the numbers of the groups that are left, and the starts in them.
+-- `edit_rows::write_middle` meets its contract: what is still to be written are the numbers of the groups that are left, and the starts in them.
 use mathlib.Core.Logic.{⊎-elim}
 use mathlib.Core.Path.{_≡_, ap}
 use Prim.Native.Nat.{_≤_, _-_}
@@ -13,10 +13,10 @@ use Rattle.scan.proofs.Pass.{write-turn, length-numbers, length-fits, power-fit
 use Rattle.longest.proofs.Writes.{Listed, list-none, list-room, list-run, list-over, list-all}
 use borrow.Author.Needs.{needs}
 use native.Mathlib.Omega.{arith}
-use Rattle.edit.proofs.write_middle.Statement.{statement}
-use Rattle.edit.proofs.write_middle.Tie as tie
-use Rattle.edit.proofs.write_middle.Reads as reads
-use Rattle.edit.proofs.write_middle.Lts as lts
+use Rattle.edit_rows.proofs.write_middle.Statement.{statement}
+use Rattle.edit_rows.proofs.write_middle.Tie as tie
+use Rattle.edit_rows.proofs.write_middle.Reads as reads
+use Rattle.edit_rows.proofs.write_middle.Lts as lts
 use Rattle.factoring.proofs.write_group.Reads as write-group-reads
 use Rattle.longest.proofs.write_run.Reads as write-run-reads
 use Rattle.scan.proofs.next_group.Reads as next-group-reads

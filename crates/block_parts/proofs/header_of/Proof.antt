@@ -1,11 +1,11 @@
--- `block::header_of` meets its contract: the three arms are the three kinds of header.
+-- `block_parts::header_of` meets its contract: the three arms are the three kinds of header.
 use mathlib.Core.Logic.{inl, inr}
 use native.Mathlib.Omega.{arith}
 use borrow.Author.Needs.{needs}
-use Rattle.block.proofs.header_of.Statement.{statement}
-use Rattle.block.proofs.header_of.Tie as tie
-use Rattle.block.proofs.header_of.Reads as reads
-use Rattle.block.proofs.header_of.Lts as lts
+use Rattle.block_parts.proofs.header_of.Statement.{statement}
+use Rattle.block_parts.proofs.header_of.Tie as tie
+use Rattle.block_parts.proofs.header_of.Reads as reads
+use Rattle.block_parts.proofs.header_of.Lts as lts
 
 cast-t5 : tie.Need-cast-t5
 cast-t5 c = search needs

@@ -1,4 +1,4 @@
--- `block::locate` meets its contract: each test that fails says why there is no block, and where all pass there is one.
+-- `block_parts::locate` meets its contract: each test that fails says why there is no block, and where all pass there is one.
 use mathlib.Core.List.{[], _∷_}
 use mathlib.Core.Logic.{_⊎_, inl, inr, ⊎-elim}
 use mathlib.Core.Path.{_≡_, refl, sym, _∙_}
@@ -8,19 +8,19 @@ use borrow.Author.Tests.{not-true, not-false}
 use denote.Enum.Declared.{tagOf}
 use types.Run.{OneOf}
 use Rattle.decimal.proofs.Decimal.{read-nine}
-use Rattle.block.specs.Inner.{HeaderOf}
-use Rattle.block.specs.declared.Header.{Header}
-use Rattle.block.specs.declared.Header.the-variants.{Definite, Indefinite, Other}
-use Rattle.block.proofs.Header.{the-type}
-use Rattle.block.proofs.Placed.{block-placed}
-use Rattle.block.proofs.Missing.{not-said, too-few, not-marked, field, length-field, cut-short, not-digits, all-digits, not-ended, ended}
+use Rattle.block_parts.specs.Inner.{HeaderOf}
+use Rattle.block_parts.specs.declared.Header.{Header}
+use Rattle.block_parts.specs.declared.Header.the-variants.{Definite, Indefinite, Other}
+use Rattle.block_parts.proofs.Header.{the-type}
+use Rattle.block_parts.proofs.Placed.{block-placed}
+use Rattle.block_parts.proofs.Missing.{not-said, too-few, not-marked, field, length-field, cut-short, not-digits, all-digits, not-ended, ended}
 use borrow.Author.Needs.{needs}
-use Rattle.block.proofs.locate.Statement.{statement}
-use Rattle.block.proofs.locate.Tie as tie
-use Rattle.block.proofs.locate.Reads as reads
-use Rattle.block.proofs.locate.Lts as lts
-use Rattle.block.proofs.header_of.Reads as header-of-reads
-use Rattle.block.proofs.ends_at.Reads as ends-at-reads
+use Rattle.block_parts.proofs.locate.Statement.{statement}
+use Rattle.block_parts.proofs.locate.Tie as tie
+use Rattle.block_parts.proofs.locate.Reads as reads
+use Rattle.block_parts.proofs.locate.Lts as lts
+use Rattle.block_parts.proofs.header_of.Reads as header-of-reads
+use Rattle.block_parts.proofs.ends_at.Reads as ends-at-reads
 use Rattle.decimal.proofs.leading_digits.Reads as leading-digits-reads
 use Rattle.decimal.proofs.value_of.Reads as value-of-reads
 

@@ -1,5 +1,5 @@
 -- Definite length blocks of IEEE 488.2 in the words of request (i), the place and count of the bytes within one, and the block of a pattern.
--- The proposition stands beside its test, and proofs/Theorems proves that they agree.
+-- The proposition stands beside its test, and `Theorems` of `block` proves that they agree.
 use mathlib.Core.Bool.{Bool, _&&_, _||_}
 use mathlib.Core.List.{List, [], _++_}
 use mathlib.Core.Logic.{_⊎_}

@@ -14,10 +14,10 @@ use Rattle.words.specs.Bounded.{every}
 use Rattle.words.specs.Order.{same}
 use Rattle.words.proofs.Bounded.{and-true, true-or-false, every-true, true-every}
 use Rattle.words.proofs.Order.{same-true, true-same}
-use Rattle.block.specs.Block.{Block, digitsSaid, countDigits, bytesPlace, bytesCount, blockBytes, digit, headed, endsAt, isBlock}
-use Rattle.block.specs.Inner.{NoBlock}
-use Rattle.block.proofs.Ends.{true-and, ends-true, true-ends}
-use Rattle.block.proofs.Placed.{Placed, block-placed, block-digits, block-bytes, block-close, placed-block}
+use Rattle.block_parts.specs.Block.{Block, digitsSaid, countDigits, bytesPlace, bytesCount, blockBytes, digit, headed, endsAt, isBlock}
+use Rattle.block_parts.specs.Inner.{NoBlock}
+use Rattle.block_parts.proofs.Ends.{true-and, ends-true, true-ends}
+use Rattle.block_parts.proofs.Placed.{Placed, block-placed, block-digits, block-bytes, block-close, placed-block}
 
 -- a digit
 digit-true : (c : ℕ) → digit c ≡ true → Digit c

@@ -16,7 +16,7 @@ use Rattle.longest.specs.declared.Longest.{Longest}
 use Rattle.longest.specs.Best.{startsOf, Measures}
 use Rattle.longest.proofs.Starts.{starts-part}
 use Rattle.longest.proofs.Writes.{starts-longest, longest-count}
-use Rattle.edit.specs.Rows.{Between}
+use Rattle.edit_rows.specs.Rows.{Between}
 
 module _ {t : List ℕ} {end place : ℕ} (w : Between t end place) where
   pub place-fits : place ≤ length t

@@ -1,0 +1,4 @@
+pub mod Placed
+pub mod Ends
+pub mod Tested
+pub mod Missing
