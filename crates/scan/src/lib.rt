@@ -143,10 +143,8 @@ pub fn next_group(s: &[u8], ranks: &[u8], i: usize) -> Stretch
             let y = s[j];
             if x != y {
                 if below(ranks, y, x) {
-                    return Stretch {
-                        length: p,
-                        power: (j - i) / p,
-                    };
+                    let power = (j - i) / p;
+                    return Stretch { length: p, power };
                 }
                 p = j + 1 - i;
             }
@@ -157,10 +155,8 @@ pub fn next_group(s: &[u8], ranks: &[u8], i: usize) -> Stretch
         p = m.p;
         j = m.j;
     }
-    Stretch {
-        length: p,
-        power: (j - i) / p,
-    }
+    let power = (j - i) / p;
+    Stretch { length: p, power }
 }
 
 // The group that starts at a place; at the end of the pattern and behind it, where none does, zeros.

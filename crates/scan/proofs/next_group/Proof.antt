@@ -63,11 +63,11 @@ shared-slice-read-y c = search needs
 below-requires : tie.Need-below-requires Inv-loop2 μ-loop2 Inv-loop μ-loop
 below-requires c κs = search needs
 
-sub-t21 : tie.Need-sub-t21 Inv-loop2 μ-loop2 Inv-loop μ-loop
-sub-t21 c = search needs
+sub-power : tie.Need-sub-power Inv-loop2 μ-loop2 Inv-loop μ-loop
+sub-power c = search needs
 
-div-t22 : tie.Need-div-t22 Inv-loop2 μ-loop2 Inv-loop μ-loop
-div-t22 c = search needs
+div-power : tie.Need-div-power Inv-loop2 μ-loop2 Inv-loop μ-loop
+div-power c = search needs
 
 returns : tie.Need-returns Inv-loop2 μ-loop2 Inv-loop μ-loop
 returns c =
@@ -120,11 +120,11 @@ loop-less c =
 loop-again : tie.Need-loop-again Inv-loop2 μ-loop2 Inv-loop μ-loop
 loop-again c = (search needs, search needs, c .before .before .leap .ensures .1, c .before .before .before .before .loop2 .inv .2)
 
-sub-t24 : tie.Need-sub-t24 Inv-loop2 μ-loop2 Inv-loop μ-loop
-sub-t24 c = search needs
+sub-power-2 : tie.Need-sub-power-2 Inv-loop2 μ-loop2 Inv-loop μ-loop
+sub-power-2 c = search needs
 
-div-t25 : tie.Need-div-t25 Inv-loop2 μ-loop2 Inv-loop μ-loop
-div-t25 c = search needs
+div-power-2 : tie.Need-div-power-2 Inv-loop2 μ-loop2 Inv-loop μ-loop
+div-power-2 c = search needs
 
 returns-2 : tie.Need-returns-2 Inv-loop2 μ-loop2 Inv-loop μ-loop
 returns-2 c = next-group (c .before .loop .inv .2) (stop-end (c .before .loop .inv .2) (search needs))
@@ -147,8 +147,8 @@ next-group-spec =
     shared-slice-read-x
     shared-slice-read-y
     below-requires
-    sub-t21
-    div-t22
+    sub-power
+    div-power
     returns
     add-p
     sub-p
@@ -159,6 +159,6 @@ next-group-spec =
     next-gap-requires
     loop-less
     loop-again
-    sub-t24
-    div-t25
+    sub-power-2
+    div-power-2
     returns-2)
