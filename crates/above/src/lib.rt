@@ -1,5 +1,7 @@
 // Whether bytes are above a given one, in steps of sixteen. In byte order the bytes themselves compare, which compiles to a few vector
 // instructions; in another order each is looked up in the ranks, with no way out between them.
+#![tactic(auto)]
+
 ghost use Rattle.std.specs.Prelude.{true, ◌≡◌, ◌≤◌, ◌+◌, length};
 ghost use Rattle.ranks.specs.Inner.{Ranks};
 ghost use Rattle.ranks.specs.Ranks.{rank, ranked};

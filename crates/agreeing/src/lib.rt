@@ -1,5 +1,7 @@
 // How far two strings agree, in steps of sixteen bytes, each of which compiles to a few vector instructions. Whether bytes agree does not depend
 // on their ranks. What is left of a block that fails is the byte loops' concern.
+#![tactic(auto)]
+
 ghost use Rattle.std.specs.Prelude.{true, ◌≡◌, ◌≤◌, ◌+◌, length};
 ghost use Rattle.agreeing.specs.Agrees.{Agrees};
 

@@ -1,5 +1,7 @@
 // The public calls on definite length blocks of IEEE 488.2: where the bytes of a block are, which `block_place` finds, and a pattern written as a
 // block. None of the calls requires anything.
+#![tactic(auto)]
+
 ghost use Rattle.std.specs.Prelude.{◌≡◌};
 ghost use Rattle.block.specs.Calls.{BlockRead, BlockWritten};
 

@@ -1,5 +1,7 @@
 // The parts of a definite length block of IEEE 488.2: what the byte after the hash mark says, and where a block ends. The digits of the count are
 // read by `decimal`, and `block_place` puts the parts together.
+#![tactic(auto)]
+
 ghost use Rattle.std.specs.Prelude.{◌≡◌};
 ghost use Rattle.block_parts.specs.Block.{ends_at};
 ghost use Rattle.block_parts.specs.Inner.{HeaderOf};

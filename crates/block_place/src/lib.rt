@@ -1,4 +1,6 @@
 // Where the bytes of a definite length block of IEEE 488.2 are, if it is one: by its parts, which `block_parts` and `decimal` read.
+#![tactic(auto)]
+
 ghost use Rattle.block_place.specs.Located.{Locates};
 
 use block_parts::{Header, ends_at, header_of};

@@ -1,5 +1,7 @@
 // How far a word grows over blocks in byte order, where sixteen bytes are tested at a time: those above its first byte c, and those that are c where
 // what follows is greater than what follows in the word.
+#![tactic(auto)]
+
 ghost use Rattle.std.specs.Prelude.{true, ◌≡◌, ◌≤◌, ◌+◌, ◌-◌, length};
 ghost use Rattle.words.specs.Scan.{Scan};
 ghost use Rattle.rising.specs.Risen.{Breaks, Exceeds, Risen};

@@ -1,5 +1,7 @@
 // Comparison of two strings: how far they agree, which is smaller, and whether they are the same.
 // Whether bytes agree does not depend on their ranks, so these are looked up at the first difference alone.
+#![tactic(auto)]
+
 ghost use Rattle.std.specs.Prelude.{cond, ◌≡◌, ◌≤◌, ◌+◌, ltb, length, take, drop};
 ghost use Rattle.words.specs.Order.{same, shared};
 ghost use Rattle.agreeing.specs.Agrees.{Agrees, Begun, Agreed};

@@ -1,4 +1,6 @@
 // Where the factors of a stored and of an edited pattern end and start around an edit. Refusals and rows are left to the crates above.
+#![tactic(auto)]
+
 ghost use Rattle.std.specs.Prelude.{◌≡◌, ◌+◌, ◌*◌, ◌<◌, length, take};
 ghost use Rattle.ranks.specs.Ranks.{ranked};
 ghost use Rattle.words.specs.Factors.{factors};

@@ -1,5 +1,7 @@
 // Numbers in decimal, written into a lent buffer and read from digits. That the buffer is long enough, and that what is read are
 // digits, is the caller's concern.
+#![tactic(auto)]
+
 ghost use Rattle.std.specs.Prelude.{◌≡◌, ◌≤◌, length};
 ghost use Rattle.rows.specs.Written.{Room, Puts};
 ghost use Rattle.decimal.specs.Decimal.{decimal, read, Digits};

@@ -1,5 +1,7 @@
 // The answer to an accepted edit of a stored pattern, on rows of plain numbers: measured, held against the room in both rows, and written by
 // `edit_rows`. The refusals 1 to 5 and the edited pattern are left to `edit_core`, the kind of row that takes the groups to the calls.
+#![tactic(auto)]
+
 ghost use Rattle.std.specs.Prelude.{◌≡◌, ◌*◌, ◌≤◌, min, length};
 ghost use Rattle.ranks.specs.Inner.{Ranks};
 ghost use Rattle.ranks.specs.Ranks.{ranked};

@@ -1,5 +1,7 @@
 // The answer to an accepted edit, with the shortest of three arrays that holds the edited pattern: a short pattern does not pay for the
 // clearing of a long array.
+#![tactic(auto)]
+
 ghost use Rattle.std.specs.Prelude.{◌*◌, ◌≤◌, min, length};
 ghost use Rattle.edit.specs.Core.{room_refusals};
 ghost use Rattle.edit.specs.Inner.{max_middle, FillsNumbers};

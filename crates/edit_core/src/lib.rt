@@ -1,5 +1,7 @@
 // The answer to one edit of a stored pattern, on rows of plain numbers: the core of the public call and of the program `edited`. It tests every
 // refusal before it writes anything.
+#![tactic(auto)]
+
 ghost use Rattle.std.specs.Prelude.{◌∷◌, ◌*◌, ◌≤◌, min, length};
 ghost use Rattle.edit.specs.Core.{all_refusals};
 ghost use Rattle.edit.specs.Inner.{max_middle, FillsNumbers};

@@ -4,7 +4,7 @@ use mathlib.Core.List.{List, ◌∷◌, ◌++◌}
 use mathlib.Core.Path.{◌≡◌, sym, ap, ◌∙◌}
 use Prim.Native.Nat.{ℕ, ◌-◌, ◌≤◌}
 use native.Mathlib.Omega.{arith}
-use borrow.Author.Tests.{not_true, not-false}
+use borrow.Author.Tests.{not-true, not-false}
 use lib.ListN.{length, take, drop, length-drop, take-append-drop}
 use lib.Seq.{take_all}
 use Rattle.words.specs.Order.{same}
@@ -16,7 +16,7 @@ use Rattle.edit_file.proofs.Only.{front_only}
 
 -- the answer of a comparison
 pub differ : {x y : List ℕ} {b : Bool} → b ≡ same x y → not b ≡ true → x ≡ y → ⊥
-differ {x} {y} {b} e t = same_false x y (sym e ∙ not_true b t)
+differ {x} {y} {b} e t = same_false x y (sym e ∙ not-true b t)
 
 pub equal : {x y : List ℕ} {b : Bool} → b ≡ same x y → not b ≡ false → x ≡ y
 equal {x} {y} {b} e t = same_true x y (sym e ∙ not-false b t)

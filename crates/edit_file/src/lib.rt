@@ -1,4 +1,6 @@
 // The parser of the file edit.csv: the line `from,to`, then one line of two decimal numbers of one to five digits.
+#![tactic(auto)]
+
 ghost use Rattle.std.specs.Prelude.{◌<◌};
 ghost use Rattle.edit_file.specs.EditFile.{Answers};
 ghost use Rattle.edit_file.specs.Fields.{FieldOf};

@@ -1,4 +1,6 @@
 // The answer to an edit as one flat struct, for the call that C and Rust link.
+#![tactic(auto)]
+
 ghost use Rattle.std.specs.Prelude.{◌≡◌};
 ghost use Rattle.edit_flat.specs.Flat.{flat_of};
 

@@ -1,4 +1,6 @@
 // The refusals of an edit that need no result, 1 to 5, tested in their order. Refusal 8 and the answer are left to other crates.
+#![tactic(auto)]
+
 ghost use Rattle.std.specs.Prelude.{◌≡◌};
 ghost use Rattle.ranks.specs.Inner.{Ranks};
 ghost use Rattle.ranks.specs.Ranks.{ranked};

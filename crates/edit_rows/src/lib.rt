@@ -1,5 +1,7 @@
 // Both rows of the answer to an edit, written from the edited pattern: the groups of the middle, as numbers, and the starts of the longest words.
 // What is written was planned by `seams`; that it fits is the caller's concern.
+#![tactic(auto)]
+
 ghost use Rattle.std.specs.Prelude.{◌≡◌, ◌+◌, ◌*◌, ◌≤◌, length, take};
 ghost use Rattle.ranks.specs.Inner.{Ranks};
 ghost use Rattle.ranks.specs.Ranks.{ranked};

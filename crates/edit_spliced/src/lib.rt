@@ -1,4 +1,6 @@
 // The answer to an accepted edit with a lent buffer, to which the edited pattern is spliced.
+#![tactic(auto)]
+
 ghost use Rattle.std.specs.Prelude.{◌*◌, ◌≤◌, min, length};
 ghost use Rattle.edit.specs.Core.{room_refusals};
 ghost use Rattle.edit.specs.Inner.{max_middle, FillsNumbers};

@@ -1,6 +1,8 @@
 // Prints the edited listing of the pattern, the block and the edit in three files of the working folder, or the refusal line. A file that
 // can't be opened or read is empty; of each file one byte is read past the longest that is accepted. What is to be printed for
 // the bytes that were read is made and proved in `edited_output::write_output`; `main` reads and writes.
+#![tactic(auto)]
+
 ghost use Rattle.io.specs.Counts.{IsPrefixLen};
 
 use edited_output::write_output;

@@ -1,5 +1,7 @@
 // What the program `edited` prints for an edit of a pattern that is not too long: the edited listing, or the refusal line. The tables are made
 // here and the rows hold every answer, so that only 2, 3 and 4 refuse the edit.
+#![tactic(auto)]
+
 ghost use Rattle.std.specs.Prelude.{◌≤◌, ◌≡◌, length};
 ghost use Rattle.refusals.specs.Refusals.{max_pattern};
 ghost use Rattle.rows.specs.Written.{Puts};

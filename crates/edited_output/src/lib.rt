@@ -1,5 +1,7 @@
 // What the program `edited` prints for the contents of its three files: the refusal line of too long a pattern or a malformed edit.csv, or
 // what is printed for the edit.
+#![tactic(auto)]
+
 ghost use Rattle.std.specs.Prelude.{◌≤◌, length};
 ghost use Rattle.text.specs.Inner.{max_listing};
 ghost use Rattle.edited_output.specs.Output.{Prints};

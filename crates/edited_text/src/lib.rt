@@ -1,5 +1,7 @@
 // The edited listing, written to a lent buffer: one pass over the edited pattern, so that equal words across the seams of an edit are one
 // group. That the edit can be made and the buffer is long enough is the caller's concern.
+#![tactic(auto)]
+
 ghost use Rattle.std.specs.Prelude.{◌≤◌, length};
 ghost use Rattle.refusals.specs.Refusals.{max_pattern};
 ghost use Rattle.rows.specs.Written.{Room, Puts};

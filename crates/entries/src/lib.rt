@@ -1,5 +1,7 @@
 // Sixteen entries of a table at a time, written, copied or tested, each compiled to a few steps on vectors; and after how many single ones
 // sixteen are tried. What the entries say is the caller's concern.
+#![tactic(auto)]
+
 ghost use Rattle.std.specs.Prelude.{true, ◌≡◌, ◌+◌, ◌-◌, ◌≤◌, ◌<◌, length, get_or};
 ghost use Rattle.rows.specs.Filled.{Right, Filled};
 ghost use Rattle.agreeing.specs.Agrees.{Agrees};

@@ -1,5 +1,7 @@
 // The groups of a pattern from a place on, counted and written to a row of numbers, and its last factor.
 // Each is one pass by Duval's scan; that the row is long enough is the caller's concern.
+#![tactic(auto)]
+
 ghost use Rattle.std.specs.Prelude.{◌≡◌, ◌+◌, ◌*◌, ◌≤◌, length, set};
 ghost use Rattle.ranks.specs.Inner.{Ranks};
 ghost use Rattle.ranks.specs.Ranks.{ranked};

@@ -1,4 +1,6 @@
 // A byte's two hexadecimal digits, read off one list of sixteen. Writing a whole word is left to `text_fields`.
+#![tactic(auto)]
+
 ghost use Rattle.std.specs.Prelude.{◌≡◌, ◌<◌};
 ghost use Rattle.hex.specs.Hex.{pair_of, HexDigits};
 

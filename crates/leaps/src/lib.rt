@@ -1,5 +1,7 @@
 // Duval's scan goes on by blocks: over bytes that agree with those a period back, or over bytes by which a word that has just grown grows on. How
 // often blocks are tried is told here too; what is left of a block that fails is the byte loops' concern.
+#![tactic(auto)]
+
 ghost use Rattle.std.specs.Prelude.{◌<◌, ◌≤◌, ◌+◌, ◌-◌, length};
 ghost use Rattle.ranks.specs.Inner.{Ranks};
 ghost use Rattle.ranks.specs.Ranks.{ranked};

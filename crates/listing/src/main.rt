@@ -1,5 +1,7 @@
 // Prints the factor listing of the pattern on standard input, or the refusal line. It reads no more than one byte over the longest pattern.
 // What is to be printed for the bytes that were read is made and proved in `write_output`; `main` reads and writes.
+#![tactic(auto)]
+
 ghost use Rattle.std.specs.Prelude.{◌≤◌, length};
 ghost use Rattle.text.specs.Inner.{max_listing};
 ghost use Rattle.text.specs.Listing.{Begins};

@@ -1,4 +1,6 @@
 // The longest Lyndon substrings of a pattern, which are its longest factors, measured: the first of them, how many there are, and the run of its group.
+#![tactic(auto)]
+
 ghost use Rattle.std.specs.Prelude.{◌≡◌, ◌+◌, ◌<◌};
 ghost use Rattle.ranks.specs.Inner.{Ranks};
 ghost use Rattle.ranks.specs.Ranks.{ranked};

@@ -1,5 +1,7 @@
 // The starts of the longest Lyndon substrings of a pattern, which are its longest factors, written to a row.
 // That the row is long enough is the caller's concern.
+#![tactic(auto)]
+
 ghost use Rattle.std.specs.Prelude.{◌≡◌, ◌+◌, ◌*◌, ◌≤◌, length};
 ghost use Rattle.ranks.specs.Inner.{Ranks};
 ghost use Rattle.ranks.specs.Ranks.{ranked};

@@ -1,5 +1,7 @@
 // The public library's factors of a pattern, and byte order. Tables are made by `lyndon_tables`; `lyndon_prefix` and `lyndon_suffix` factor a part.
 // Each call tests its refusals in the order that its comment names and then calls the crate that does the work; none of them requires anything.
+#![tactic(auto)]
+
 ghost use Rattle.lyndon.specs.Calls.{Factored, ByteOrderWritten};
 
 use factoring::{count_groups, fill_groups};

@@ -2,6 +2,8 @@
 // the answer is the refusal's number, where the call has one, and what else is told goes through `&mut`. Each body is the call and the taking
 // apart of its answer; include/lyndon.h declares them, and has the interface's number that is told here. Slices stand before numbers in every
 // list of parameters: a slice that got the last register and a place on the stack would not be found where Rust puts one.
+#![tactic(auto)]
+
 ghost use Rattle.std.specs.Prelude.{◌≡◌};
 ghost use Rattle.refusals.specs.Interface.{interface};
 ghost use Rattle.lyndon.specs.Calls.{Factored, ByteOrderWritten};

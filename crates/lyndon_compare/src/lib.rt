@@ -1,4 +1,6 @@
 // The public library's comparison of two strings. It tests its refusals and then calls `comparing`, whose comparison the whole engine uses.
+#![tactic(auto)]
+
 ghost use Rattle.std.specs.Prelude.{◌≡◌};
 ghost use Rattle.lyndon_compare.specs.Calls.{comparison};
 

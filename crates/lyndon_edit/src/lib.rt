@@ -1,5 +1,7 @@
 // The public call that answers an edit of a stored pattern, with the middle groups as records. It tests refusals 13, 1, 2, 3, 4, 5 and 8 in this
 // order and writes nothing where one holds; it requires nothing. `edit_core` does the work on rows of numbers.
+#![tactic(auto)]
+
 ghost use Rattle.edit_answered.specs.Calls.{EditAnswered};
 
 use edit::{Answer, MAX_MIDDLE, count_of};

@@ -1,6 +1,8 @@
 // The call that answers an edit, for Rust and C: the rows go through as they lie, and the answer comes as one flat struct; and the interface's
 // number, which each archive tells.
 // A slice is two parameters for the caller, its pointer and its length; a Rust caller declares them so, and not as `&[u8]`.
+#![tactic(auto)]
+
 ghost use Rattle.std.specs.Prelude.{◌≡◌};
 ghost use Rattle.refusals.specs.Interface.{interface};
 ghost use Rattle.edit_answered.specs.Calls.{EditAnswered};

@@ -1,5 +1,7 @@
 // The public library on one pattern: the factors of its prefixes, by its prefix table, which `lyndon_tables` makes.
 // The call tests its refusals in their order and then calls the crates that do the work; it requires nothing.
+#![tactic(auto)]
+
 ghost use Rattle.lyndon_prefix.specs.Calls.{PrefixFactored};
 
 use order_test::test_order;

@@ -1,4 +1,6 @@
 // The public library's mark of a pattern that is looped: the start of its least rotation. It tests its refusals and then calls `rotation`.
+#![tactic(auto)]
+
 ghost use Rattle.lyndon_rotation.specs.Calls.{RotationFound};
 
 use order_test::test_order;

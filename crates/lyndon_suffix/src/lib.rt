@@ -1,5 +1,7 @@
 // The public library on one pattern: the factors of its suffixes, by its reach table, which `lyndon_tables` makes.
 // The call tests its refusals in their order and then calls the crates that do the work; it requires nothing.
+#![tactic(auto)]
+
 ghost use Rattle.lyndon_suffix.specs.Calls.{SuffixFactored};
 
 use order_test::test_order;

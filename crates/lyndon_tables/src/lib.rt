@@ -1,4 +1,6 @@
 // The public library's two tables of a pattern. Each call tests its refusals and then calls the crate that makes the table.
+#![tactic(auto)]
+
 ghost use Rattle.lyndon_tables.specs.Calls.{ArrayMade, LastFactorsMade};
 
 use order_test::test_order;

@@ -1,4 +1,6 @@
 // The public library's test of a string, whether it is a Lyndon word. It tests its refusals and then looks at the first group of factors.
+#![tactic(auto)]
+
 ghost use Rattle.lyndon_test.specs.Calls.{LyndonTold};
 
 use order_test::test_order;

@@ -1,4 +1,6 @@
 // The public library's listing of a pattern. It tests its refusals in their order and then calls `text_lines`, which does the work.
+#![tactic(auto)]
+
 ghost use Rattle.lyndon_text.specs.Calls.{ListingWritten};
 
 use order_test::test_order;

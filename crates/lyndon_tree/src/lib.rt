@@ -1,4 +1,6 @@
 // The public library's tree of a Lyndon word. It tests its refusals and then calls `tree`.
+#![tactic(auto)]
+
 ghost use Rattle.lyndon_tree.specs.Calls.{TreeListed};
 
 use order_test::test_order;

@@ -1,5 +1,7 @@
 // The public library's trigger word of a pattern, the first of its longest words: as a part and as a place.
 // Each call answers the first of its refusals, in their order, and leaves the work to `longest`; none of them requires anything.
+#![tactic(auto)]
+
 ghost use Rattle.std.specs.Prelude.{◌≡◌};
 ghost use Rattle.lyndon_trigger.specs.Calls.{word_place, WordCut};
 

@@ -1,5 +1,7 @@
 // The public library's way back from a wanted reach table to a pattern that has it. It tests its refusals, 12 by `wanted_testing`, and then calls
 // `wanted_making`.
+#![tactic(auto)]
+
 ghost use Rattle.lyndon_wanted.specs.Calls.{ArrayRealised};
 
 use order_bytes::{bytes_of, replace_ranks};

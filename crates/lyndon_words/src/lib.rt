@@ -1,5 +1,7 @@
 // The public library's longest words of a pattern: their length and starts. The first of them is `lyndon_trigger`'s.
 // The call answers the first of its refusals, in their order, and leaves the work to `longest`; it requires nothing.
+#![tactic(auto)]
+
 ghost use Rattle.lyndon_words.specs.Calls.{StartsListed};
 
 use longest::measure;

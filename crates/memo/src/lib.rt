@@ -1,6 +1,8 @@
 // A small memo of agreements inside a pattern: how far a place agrees with the end of its longest Lyndon word, and with the place a step further on.
 // It has two halves of 128 slots of four numbers, one for short agreements and one for long ones; the number of a place says its slot.
 // Which slot is read or written never matters for what is true.
+#![tactic(auto)]
+
 ghost use Rattle.std.specs.Prelude.{◌⊎◌, ◌≡◌, ◌+◌, ◌*◌, ◌<◌, ◌≤◌, length, get_or};
 ghost use Rattle.ranks.specs.Ranks.{ranked};
 ghost use Rattle.memo.specs.Memo.{Alike, Slot, Memo, Knows};

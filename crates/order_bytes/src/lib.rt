@@ -1,5 +1,7 @@
 // What is written by an order: byte order itself, the bytes by their ranks, and the byte of each rank in a row that holds ranks.
 // That a list is an order, and that a row is long enough, is the caller's concern.
+#![tactic(auto)]
+
 ghost use Rattle.std.specs.Prelude.{◌≡◌, ◌≤◌, length, take};
 ghost use Rattle.rows.specs.Row.{written};
 ghost use Rattle.ranks.specs.Ranks.{Order, byte_order, ranked};

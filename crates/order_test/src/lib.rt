@@ -1,5 +1,7 @@
 // The test of refusal 13: whether a list is an order, and whether it is byte order, of which no ranks are handed down.
 // Byte order is told by steps of sixteen ranks, and only what is not byte order is looked at rank by rank.
+#![tactic(auto)]
+
 ghost use Rattle.std.specs.Prelude.{◌≡◌, ◌+◌, ◌-◌, ◌%◌, ◌<◌, ◌≤◌, true, length, slice_index};
 ghost use Rattle.rows.specs.Filled.{Right};
 ghost use Rattle.ranks.specs.Ranks.{is_order, byte_order};

@@ -1,6 +1,8 @@
 // Runs the public calls under other symbol orders than byte order: the reverse order, one that moves a few symbols, and one that mixes all; then
 // what is no order, refusal 13, for each call and beside each other refusal. It prints as `vectors` does, by `show`, with the digest of the order,
 // and its file `stdout` was computed in the same way, from the words on ranks.
+#![tactic(auto)]
+
 mod comparisons;
 mod edits;
 mod no_order;

@@ -1,5 +1,7 @@
 // The groups of a prefix, counted and written to a row of numbers from the last to the first, by the chain through the table of last factors.
 // That the table is right and the row long enough is the caller's concern.
+#![tactic(auto)]
+
 ghost use Rattle.std.specs.Prelude.{◌≡◌, ◌*◌, ◌<◌, ◌≤◌, length, take};
 ghost use Rattle.ranks.specs.Inner.{Ranks};
 ghost use Rattle.ranks.specs.Ranks.{ranked};

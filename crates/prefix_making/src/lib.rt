@@ -1,4 +1,6 @@
 // The prefix table of a pattern, the lengths of its last factors, made into a row along Duval's scan. That the row is long enough is the caller's concern.
+#![tactic(auto)]
+
 ghost use Rattle.std.specs.Prelude.{◌≡◌, ◌≤◌, length};
 ghost use Rattle.ranks.specs.Inner.{Ranks};
 ghost use Rattle.ranks.specs.Ranks.{ranked};

@@ -1,4 +1,6 @@
 // The prefix table of a pattern made by steps of sixteen entries, where sixteen bytes are above the word's first or stand some words earlier too.
+#![tactic(auto)]
+
 ghost use Rattle.std.specs.Prelude.{◌-◌, ◌≤◌, ◌<◌, length};
 ghost use Rattle.ranks.specs.Inner.{Ranks};
 ghost use Rattle.ranks.specs.Ranks.{ranked};

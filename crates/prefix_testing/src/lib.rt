@@ -1,5 +1,7 @@
 // A table of any content tested for being the prefix table of a pattern, the lengths of its last factors, in place and along Duval's scan.
 // That it is long enough is the caller's concern.
+#![tactic(auto)]
+
 ghost use Rattle.std.specs.Prelude.{◌≡◌, ◌≤◌, length, take};
 ghost use Rattle.ranks.specs.Inner.{Ranks};
 ghost use Rattle.ranks.specs.Ranks.{ranked};

@@ -1,4 +1,6 @@
 // A table of any content tested by steps of sixteen entries, where sixteen bytes are above the word's first or stand a word earlier too.
+#![tactic(auto)]
+
 ghost use Rattle.std.specs.Prelude.{◌-◌, ◌≤◌, length};
 ghost use Rattle.ranks.specs.Inner.{Ranks};
 ghost use Rattle.ranks.specs.Ranks.{ranked};

@@ -7,7 +7,7 @@ use Prim.Native.Nat.{ℕ, ◌+◌, ◌-◌, ◌≤◌, ◌<◌}
 use native.Mathlib.Omega.{arith}
 use lib.ListN.{length, get_or}
 use lib.Dec.{eqb, leb}
-use borrow.Author.Tests.{eqb-false, leb-true, not_true}
+use borrow.Author.Tests.{eqb-false, leb-true, not-true}
 use Rattle.words.proofs.Bounded.{le_or_lt, le_cases, and_true, or_true}
 use Rattle.words.proofs.Scan.{Scan, scan_grow}
 use Rattle.ranks.specs.Inner.{Ranks}
@@ -37,7 +37,7 @@ module _ {s : List ℕ} {c j : ℕ} where
       record { at = λ t h l. go t h (le_cases {a = t} {b = k} (omega arith)) (g p) (here (or_true (not (eqb (get_or s k 0) c)) met q)) }
     where
       here : (not (eqb (get_or s k 0) c) ≡ true) ⊎ (met ≡ true) → get_or s k 0 ≡ c → Breaks s c k
-      here (inl n) o = absurd (eqb-false (get_or s k 0) c (not_true (eqb (get_or s k 0) c) n) o)
+      here (inl n) o = absurd (eqb-false (get_or s k 0) c (not-true (eqb (get_or s k 0) c) n) o)
       here (inr n) o = f n
 
       go : (t : ℕ) → j ≤ t → (t ≡ k) ⊎ (t < k) → Broken s c j k → (get_or s k 0 ≡ c → Breaks s c k) → (t + 8 ≤ length s) × (get_or s t 0 ≡ c → Breaks s c t)

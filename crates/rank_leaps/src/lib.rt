@@ -1,5 +1,7 @@
 // How far a word grows over blocks in another order than byte order: sixteen ranks are looked up with no way out between them, and where runs of
 // the word's first byte break off is told of the bytes, sixteen at a time.
+#![tactic(auto)]
+
 ghost use Rattle.std.specs.Prelude.{true, ◌≡◌, ◌≤◌, ◌+◌, ◌-◌, length};
 ghost use Rattle.words.specs.Scan.{Scan};
 ghost use Rattle.ranks.specs.Inner.{Ranks};

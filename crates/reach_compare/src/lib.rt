@@ -1,4 +1,6 @@
 // A word of a pattern beside the one that follows it: how far they agree, and whether the first is smaller, by comparison and with what is known already.
+#![tactic(auto)]
+
 ghost use Rattle.std.specs.Prelude.{◌+◌, ◌<◌, ◌≤◌, length};
 ghost use Rattle.ranks.specs.Inner.{Ranks};
 ghost use Rattle.ranks.specs.Ranks.{ranked};

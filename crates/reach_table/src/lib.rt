@@ -1,6 +1,8 @@
 // An entry of the reach table, which is the Lyndon array, from the entries behind it: the word there grows by the words that follow while it is smaller.
 // Words are compared plainly while that is cheap, and else with a memo, so that no pattern takes quadratic time. Making and testing a table are
 // the concern of the crates above.
+#![tactic(auto)]
+
 ghost use Rattle.std.specs.Prelude.{◌≡◌, ◌+◌, ◌<◌, length};
 ghost use Rattle.ranks.specs.Inner.{Ranks};
 ghost use Rattle.ranks.specs.Ranks.{ranked};

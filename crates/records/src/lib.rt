@@ -1,5 +1,7 @@
 // Groups as records, stored to a lent row of records from a row of numbers.
 // The only code that touches a slice of structs; its proof follows the code by hand, so it is kept thin.
+#![tactic(auto)]
+
 ghost use Rattle.std.specs.Prelude.{◌≡◌, ◌<◌, ◌≤◌, ◌+◌, ◌*◌, length};
 ghost use Rattle.records.specs.Groups.{group_at, filled};
 

@@ -1,6 +1,8 @@
 // Runs the public calls but edits, listings and blocks in byte order where they refuse, and next to it: short rows, the empty pattern, positions,
 // wrong tables, repeated words, several refusals at once, the longest patterns, the longest strings compared, wanted tables. It prints as `vectors`
 // does, by `show`, and its file `stdout` was computed in the same way. What is no order, refusal 13, is left to `order_vectors`.
+#![tactic(auto)]
+
 mod empty;
 mod limits;
 mod positions;

@@ -1,5 +1,7 @@
 // The limits that the refusals test, and the answer of a call that fills a row, once for all calls; the number of the interface for C and Rust.
 // The refusals' definitions, a number and a test each, stand in specs/, and so does what a filled row holds.
+#![tactic(auto)]
+
 ghost use Rattle.std.specs.Prelude.{◌≡◌};
 
 // The longest pattern, stored or edited.

@@ -7,7 +7,7 @@ use Prim.Native.Nat.{ℕ, zero, suc, ◌+◌, ◌-◌, ◌≤◌, ◌<◌}
 use native.Mathlib.Omega.{arith}
 use lib.ListN.{length, get_or}
 use lib.Dec.{eqb, ltb}
-use borrow.Author.Tests.{eqb-true, eqb-false, ltb-true, not_true, not-false}
+use borrow.Author.Tests.{eqb-true, eqb-false, ltb-true, not-true, not-false}
 use Rattle.words.proofs.Bounded.{le_or_lt, le_cases, and_true, or_true, or_false}
 use Rattle.words.proofs.Below.{Below}
 use Rattle.words.proofs.Scan.{Scan, scan_grow}
@@ -33,7 +33,7 @@ module _ {s : List ℕ} {c t : ℕ} where
     where
       go : (some ≡ true) ⊎ (not (eqb (get_or s (t + n) 0) c) ≡ true) → ⊥
       go (inl q) = g q (record { at = λ u a b. r.at u a (omega arith) })
-      go (inr q) = eqb-false (get_or s (t + n) 0) c (not_true (eqb (get_or s (t + n) 0) c) q) (r.at n h (omega arith))
+      go (inr q) = eqb-false (get_or s (t + n) 0) c (not-true (eqb (get_or s (t + n) 0) c) q) (r.at n h (omega arith))
 
 module _ {s : List ℕ} {c : ℕ} {P : ℕ → Type 0} {j : ℕ} where
   pub risen_none : Risen s c P j j

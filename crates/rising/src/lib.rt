@@ -1,5 +1,7 @@
 // What lets a word that begins with eight bytes c grow over bytes that are c themselves: whether a run of c breaks off, and where the last byte
 // stands that is not c. Both are of the bytes, in any order; blocks of them are the concern of `byte_leaps` and `rank_leaps`.
+#![tactic(auto)]
+
 ghost use Rattle.std.specs.Prelude.{true, false, ◌≡◌, ◌⊎◌, ◌≤◌, ◌+◌, ◌-◌, length, get_or};
 ghost use Rattle.rising.specs.Risen.{Run, Breaks};
 

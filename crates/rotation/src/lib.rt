@@ -1,5 +1,7 @@
 // The smallest start of a least rotation, and whether the pattern is a shorter word repeated, read off the groups of the doubled pattern.
 // The doubled pattern is not written out: a group that may go on round the end is compared there with the pattern's front.
+#![tactic(auto)]
+
 ghost use Rattle.std.specs.Prelude.{◌≡◌};
 ghost use Rattle.ranks.specs.Inner.{Ranks};
 ghost use Rattle.ranks.specs.Ranks.{ranked};

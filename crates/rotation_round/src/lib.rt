@@ -1,5 +1,7 @@
 // What follows a group of the pattern, round the pattern's end, compared with the group's word.
 // The pattern is not written out twice: the bytes that are left behind the group come first, then the pattern's front.
+#![tactic(auto)]
+
 ghost use Rattle.std.specs.Prelude.{◌≡◌, ◌+◌, ◌*◌, take, drop};
 ghost use Rattle.ranks.specs.Inner.{Ranks};
 ghost use Rattle.ranks.specs.Ranks.{ranked};

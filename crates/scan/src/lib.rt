@@ -1,5 +1,7 @@
 // Duval's scan: the group of factors that starts at a place of a pattern.
 // The inner loop of everything that lists factors; refusals and rows are left to the crates above.
+#![tactic(auto)]
+
 ghost use Rattle.std.specs.Prelude.{◌<◌, length};
 ghost use Rattle.ranks.specs.Inner.{Ranks};
 ghost use Rattle.ranks.specs.Ranks.{ranked};

@@ -1,5 +1,7 @@
 // Where the three parts of an edited pattern meet: the kept factors, the middle and the resumed factors, how many groups the middle has, and
 // the longest Lyndon substrings, all of one pass. The groups themselves and the rows are left to other crates.
+#![tactic(auto)]
+
 ghost use Rattle.std.specs.Prelude.{cond, ◌≡◌, ◌+◌, ◌≤◌, ◌<◌, ltb, length};
 ghost use Rattle.ranks.specs.Inner.{Ranks};
 ghost use Rattle.ranks.specs.Ranks.{ranked};

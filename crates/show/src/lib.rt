@@ -1,6 +1,8 @@
 // Prints to standard output: headings, words, rows, and the answers of the calls, each number after its name. What prints returns nothing, so
 // there is nothing for an `ensures` to speak of. The calls themselves are made in `calls.rt` and `edits.rt`; which cases are run is left to the
 // programs.
+#![tactic(auto)]
+
 pub mod calls;
 pub mod edits;
 

@@ -1,4 +1,6 @@
 // The splicing of an edited pattern: a stretch of the stored one makes way for a block. That there is room is the caller's concern.
+#![tactic(auto)]
+
 ghost use Rattle.std.specs.Prelude.{◌≡◌, ◌+◌, ◌-◌, ◌≤◌, length};
 ghost use Rattle.rows.specs.Row.{written};
 ghost use Rattle.words.specs.Edit.{edited};

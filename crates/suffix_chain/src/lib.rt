@@ -1,5 +1,7 @@
 // The groups of a suffix, counted and written to a row of numbers, by the chain through the Lyndon array.
 // That the table is right and the row long enough is the caller's concern.
+#![tactic(auto)]
+
 ghost use Rattle.std.specs.Prelude.{◌≡◌, ◌*◌, ◌<◌, ◌≤◌, length, take};
 ghost use Rattle.ranks.specs.Inner.{Ranks};
 ghost use Rattle.ranks.specs.Ranks.{ranked};

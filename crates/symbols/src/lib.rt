@@ -1,5 +1,7 @@
 // Bytes under an order of the symbols: which of two has the smaller rank, and the rank of one. The crates above hand ranks down, those of an
 // order or none, which stands for byte order; so a byte is looked up only in another order, and only where two bytes differ.
+#![tactic(auto)]
+
 ghost use Rattle.std.specs.Prelude.{◌≡◌, ◌<◌};
 ghost use Rattle.ranks.specs.Ranks.{rank};
 ghost use Rattle.ranks.specs.Inner.{Ranks, Below};

@@ -1,5 +1,7 @@
 // The fields of a line of the listings, written into a lent buffer: words in hexadecimal, and numbers in decimal with what stands beside them.
 // That the buffer is long enough is the caller's concern. Lines are `text_writers`' concern.
+#![tactic(auto)]
+
 ghost use Rattle.text.specs.Hexadecimal.{hexadecimal};
 ghost use Rattle.text.specs.Listing.{field, last_field};
 ghost use Rattle.rows.specs.Written.{Room, Puts};

@@ -1,5 +1,7 @@
 // The passes over the groups of a pattern that measure its listing and write it into a lent buffer, line by line; `text_writers` writes a line.
 // That the buffer is long enough is the caller's concern.
+#![tactic(auto)]
+
 ghost use Rattle.std.specs.Prelude.{◌≡◌, ◌≤◌, length};
 ghost use Rattle.ranks.specs.Inner.{Ranks};
 ghost use Rattle.ranks.specs.Ranks.{ranked};

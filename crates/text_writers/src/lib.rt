@@ -1,5 +1,7 @@
 // The parts of the listings, measured and written into a lent buffer, field by field: a line, the header, the refusal line.
 // That the buffer is long enough is the caller's concern. The pass over all lines is `text_lines`.
+#![tactic(auto)]
+
 ghost use Rattle.std.specs.Prelude.{◌≡◌, ◌<◌, length};
 ghost use Rattle.text.specs.Listing.{header, line, refusal_text};
 ghost use Rattle.rows.specs.Written.{Room, Puts};

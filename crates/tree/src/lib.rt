@@ -1,5 +1,7 @@
 // The nodes of the Lyndon tree of a Lyndon word, written to a row of numbers.
 // That the word is a Lyndon word and the row long enough is the caller's concern.
+#![tactic(auto)]
+
 ghost use Rattle.std.specs.Prelude.{◌≡◌, ◌+◌, ◌*◌, ◌≤◌, length, take, drop};
 ghost use Rattle.ranks.specs.Inner.{Ranks};
 ghost use Rattle.ranks.specs.Ranks.{ranked};

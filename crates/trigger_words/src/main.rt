@@ -1,5 +1,7 @@
 // Prints the trigger word of each line of standard input, in byte order. No archive can export `longest_word`, which answers a part of the pattern, so
 // that this program runs it; what must be printed, the file `stdout`, was computed from the definition, by comparing all substrings.
+#![tactic(auto)]
+
 ghost use Rattle.std.specs.Prelude.{◌≤◌, length};
 
 use libc::{STDIN_FILENO, STDOUT_FILENO};

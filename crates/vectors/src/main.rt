@@ -3,6 +3,8 @@
 // entries of 7777, and bytes `.`, are as they were lent. What must be printed, the file `stdout`, was computed from the papers' definitions and the
 // words on blocks, apart from this project's code. What a call refuses, but for edits and blocks, is left to `refusal_vectors`, and other orders of
 // symbols to `order_vectors`.
+#![tactic(auto)]
+
 mod blocks;
 mod comparisons;
 mod edits;

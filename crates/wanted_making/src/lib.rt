@@ -1,5 +1,7 @@
 // A pattern for a wanted reach table whose stretches nest, as `realisation` proves that it has the table. Whether they nest is told by
 // `wanted_testing`; refusals and the room for the pattern are the caller's concern.
+#![tactic(auto)]
+
 ghost use Rattle.std.specs.Prelude.{◌≡◌, ◌≤◌, length};
 ghost use Rattle.realisation.specs.Nested.{Nests};
 ghost use Rattle.realisation.specs.Symbols.{symbols};

@@ -1,5 +1,7 @@
 // Whether the stretches of a wanted reach table nest. That a table whose stretches do not nest is no reach table is proved in `realisation`;
 // refusals are the caller's concern.
+#![tactic(auto)]
+
 ghost use Rattle.std.specs.Prelude.{◌≤◌, length};
 ghost use Rattle.realisation.specs.Nested.{NestsTold};
 ghost use Rattle.refusals.specs.Refusals.{max_wanted};

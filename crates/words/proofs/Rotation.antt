@@ -8,7 +8,7 @@ use Prim.Native.Nat.{ℕ, zero, suc, ◌+◌, ◌-◌, ◌≤◌, ◌<◌}
 use native.Mathlib.Omega.{arith}
 use lib.ListN.{length, take, drop, get_or, length-append, length-take, length-drop, take-append-drop, get_or-append}
 use lib.Seq.{take-append-add, drop-append-le, get_or-append-add, get_or-take, get_or-drop, ext_get_or}
-use borrow.Author.Tests.{not_true}
+use borrow.Author.Tests.{not-true}
 use Rattle.words.specs.Order.{Less, less}
 use Rattle.words.specs.Rotation.{rotation, least, least_rotation}
 use Rattle.words.proofs.Bounded.{le_or_lt, le_cases, every_true, true_every, smallest_le, smallest_passes, smallest_most}
@@ -35,7 +35,7 @@ lowest f (suc n) = let (k, l, h) = lowest f n in go k l h (less (f (suc n)) (f k
 
 least_true : (s : List ℕ) (k : ℕ) → least s k ≡ true → (j : ℕ) → j < length s → Le (rotation s k) (rotation s j)
 least_true s k e j l =
-    less_false (rotation s j) (rotation s k) (not_true _ (every_true (λ i. not (less (rotation s i) (rotation s k))) (length s) e j l))
+    less_false (rotation s j) (rotation s k) (not-true _ (every_true (λ i. not (less (rotation s i) (rotation s k))) (length s) e j l))
 
 true_least : (s : List ℕ) (k : ℕ) → ((j : ℕ) → j < length s → Le (rotation s k) (rotation s j)) → least s k ≡ true
 true_least s k h =

@@ -253,7 +253,7 @@ scan_words {s} {i} {j} {p} c h zero n f a b =
     let q : n ≡ i + p = omega arith in
     (rw q (scan_first c h), rw q (scan_last c h (omega arith)))
 scan_words {s} {i} {j} {p} c h (suc e) n f a b =
-    let (x, y) = rw (scan_shift c i p (omega arith) (omega arith)) at (scan_words (scan_again c (omega arith)) h e n (omega arith) a b) in
+    let (x, y) = rw (scan_shift c i p (omega arith) (omega arith)) at (scan_words {i = i + p} (scan_again c (omega arith)) h e n (omega arith) a b) in
     (scan_first c h ∙ ap {B = List (List ℕ)} (λ r. take p (drop i s) ∷ r) x, y)
 
 -- the group at i has all e whole words before j

@@ -186,7 +186,7 @@ front_words {s} {i} {j} {p} d c h zero l = rw (words_none i p) d
 front_words {s} {i} {j} {p} d c h (suc zero) l = rw (words_one i p) (front_next d c h)
 front_words {s} {i} {j} {p} d c h (suc (suc e)) l =
     let (a, b, q) = words_more i j p e l in
-    rw q (front_words (front_next d c h) (scan_again c a) h (suc e) b)
+    rw q (front_words {i = i + p} (front_next d c h) (scan_again c a) h (suc e) b)
 
 -- a list of factors by its last
 record Ends (fs : List (List ℕ)) : Type 0 where

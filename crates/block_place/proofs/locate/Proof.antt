@@ -4,7 +4,7 @@ use mathlib.Core.Logic.{◌⊎◌, inl, inr, ⊎_elim}
 use mathlib.Core.Path.{◌≡◌, refl, sym, ◌∙◌}
 use Prim.Native.Nat.{ℕ, ◌<◌}
 use native.Mathlib.Omega.{arith}
-use borrow.Author.Tests.{not_true, not-false}
+use borrow.Author.Tests.{not-true, not-false}
 use denote.Enum.Declared.{tag_of}
 use types.Run.{OneOf}
 use Rattle.decimal.proofs.Decimal.{read_nine}
@@ -126,7 +126,7 @@ returns-6 c =
     let block = a.before.before.before.before.before.before.before.before.args.block.now in
     let n = a.digits.given.0.0 in
     let header = rw a.digits.given.1 at a.before.before.header_of.ensures in
-    not_ended block n header.0 c.before.before.value_of_lem.ensures (sym c.before.ends_at.ensures ∙ not_true _ c.if5.true)
+    not_ended block n header.0 c.before.before.value_of_lem.ensures (sym c.before.ends_at.ensures ∙ not-true _ c.if5.true)
 
 returns-7 : tie.Need-returns-7
 returns-7 c =

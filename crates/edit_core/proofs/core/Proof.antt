@@ -1,5 +1,5 @@
 -- `edit_core::core` meets its contract: refused by 13, or answered by the ranks that are handed down.
-use borrow.Author.Tests.{not_true, not-false}
+use borrow.Author.Tests.{not-true, not-false}
 use mathlib.Core.Path.{sym}
 use lib.ListN.{length}
 use lib.Seq.{length-take-le}
@@ -24,7 +24,7 @@ returns c =
     let o = a.order.now in
     fills_not_order c.before.before.test-order.ensures
     (all_refusals (ranked o a.pattern.now) a.array.now a.last.now a.from a.to (ranked o a.block.now) a.room (length a.starts.now))
-    (not_true _ c.if1.true)
+    (not-true _ c.if1.true)
 
 slice-aggregate-ranked-core : tie.Need-slice-aggregate-ranked-core
 slice-aggregate-ranked-core c =

@@ -1,6 +1,6 @@
 -- `edit_refusal::refusal` meets its contract: each of its returns is one way through the tests.
 use mathlib.Core.Path.{sym, ◌∙◌}
-use borrow.Author.Tests.{not_true, not-false}
+use borrow.Author.Tests.{not-true, not-false}
 use Rattle.ranks.specs.Ranks.{ranked}
 use Rattle.ranks.proofs.Ranked.{length_ranked}
 use Rattle.edit_refusal.proofs.Refused.{Shaped, refuses_pattern, refuses_backward, refuses_end, refuses_block, refuses_edited}
@@ -91,7 +91,7 @@ returns-7 c =
     let shape : Shaped p a.from a.to b =
     record { pattern = omega arith; start = omega arith; stretch = omega arith; block = omega arith; fits = omega arith } in
     refuses_array p a.array.now a.last.now a.from a.to b shape (omega arith)
-    (rw e (sym c.before.is-lyndon-array.ensures ∙ not_true _ c.if7.true))
+    (rw e (sym c.before.is-lyndon-array.ensures ∙ not-true _ c.if7.true))
 
 returns-8 : tie.Need-returns-8
 returns-8 c =
@@ -121,7 +121,7 @@ returns-9 c =
     let t = c.before.before.before in
     refuses_last p a.array.now a.last.now a.from a.to b shape (omega arith)
     (rw e (sym t.before.is-lyndon-array.ensures ∙ not-false _ t.if7.false)) (omega arith)
-    (rw e (sym c.before.is-last-factors.ensures ∙ not_true _ c.if9.true))
+    (rw e (sym c.before.is-last-factors.ensures ∙ not-true _ c.if9.true))
 
 returns-10 : tie.Need-returns-10
 returns-10 c =

@@ -5,7 +5,7 @@ use lib.Seq.{length-take-le}
 use mathlib.Core.Logic.{⊎_elim}
 use mathlib.Core.Path.{refl}
 use native.Mathlib.Omega.{arith}
-use borrow.Author.Tests.{not_true, not-false}
+use borrow.Author.Tests.{not-true, not-false}
 use Rattle.lyndon.proofs.Factoring.{room_counted, room_any, factor_not_order, factor_long, factor_short, factor_done}
 use borrow.Author.Rules.{rules}
 use Rattle.lyndon.proofs.factor.Statement.{statement}
@@ -27,7 +27,7 @@ returns : tie.Need-returns
 returns c =
     let k = c.before in
     let a = k.before.before.before.before.before.before.args in
-    factor_not_order k.before.before.test-order.ensures a.pattern.now a.groups.now c.refused.result (not_true _ k.if1.true) c.refused.ensures
+    factor_not_order k.before.before.test-order.ensures a.pattern.now a.groups.now c.refused.result (not-true _ k.if1.true) c.refused.ensures
 
 slice-aggregate-ranks : tie.Need-slice-aggregate-ranks
 slice-aggregate-ranks c =

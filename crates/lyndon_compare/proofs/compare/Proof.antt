@@ -3,7 +3,7 @@ use lib.ListN.{take}
 use lib.Seq.{length-take-le}
 use mathlib.Core.Path.{sym, ◌∙◌}
 use native.Mathlib.Omega.{arith}
-use borrow.Author.Tests.{not_true, not-false}
+use borrow.Author.Tests.{not-true, not-false}
 use Rattle.lyndon_compare.proofs.Told.{no_order, first_long, second_long, both_fit, compared_same}
 use borrow.Author.Rules.{rules}
 use Rattle.lyndon_compare.proofs.compare.Statement.{statement}
@@ -20,7 +20,7 @@ returns : tie.Need-returns
 returns c =
     let a = c.before.before.before.before.before.before.args in
     let t = c.before.before.test-order.ensures in
-    no_order a.first.now a.second.now a.order.now (sym t.is ∙ not_true _ c.if1.true)
+    no_order a.first.now a.second.now a.order.now (sym t.is ∙ not-true _ c.if1.true)
 
 slice-aggregate-ranks : tie.Need-slice-aggregate-ranks
 slice-aggregate-ranks c =

@@ -1,7 +1,7 @@
 -- `lyndon_rotation::least_rotation` meets its contract: what `least_start` tells of the pattern, where neither the order nor the pattern is refused.
 use lib.Seq.{length-take-le}
 use native.Mathlib.Omega.{arith}
-use borrow.Author.Tests.{not_true, not-false}
+use borrow.Author.Tests.{not-true, not-false}
 use mathlib.Core.Path.{sym, ◌∙◌}
 use Rattle.lyndon_rotation.proofs.Found.{rotation_not_order, rotation_long, rotation_repeated, rotation_found}
 use borrow.Author.Rules.{rules}
@@ -20,7 +20,7 @@ returns c =
     let k = c in
     let a = k.before.before.before.before.before.args in
     let t = k.before.before.test-order.ensures in
-    rotation_not_order t a.pattern.now (not_true _ k.if1.true)
+    rotation_not_order t a.pattern.now (not-true _ k.if1.true)
 
 slice-aggregate-ranks : tie.Need-slice-aggregate-ranks
 slice-aggregate-ranks c =

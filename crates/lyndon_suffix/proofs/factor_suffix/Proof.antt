@@ -2,7 +2,7 @@
 use lib.Seq.{length-take-le}
 use mathlib.Core.Path.{refl, sym, ◌∙◌}
 use native.Mathlib.Omega.{arith}
-use borrow.Author.Tests.{not_true, not-false}
+use borrow.Author.Tests.{not-true, not-false}
 use Rattle.words.proofs.Order.{same_true}
 use Rattle.words.proofs.Tables.{lyndon_array_length}
 use Rattle.words.specs.Tables.{lyndon_array, suffix_groups}
@@ -29,7 +29,7 @@ returns c =
     let k = c.before in
     let a = k.before.before.before.before.before.before.before.args in
     let t = k.before.before.test-order.ensures in
-    part_not_order t lyndon_array lyndon_array_length (λ u. suffix_groups u a.start) a.pattern.now a.table.now a.groups.now a.start c.refused.result (not_true _ k.if1.true) c.refused.ensures
+    part_not_order t lyndon_array lyndon_array_length (λ u. suffix_groups u a.start) a.pattern.now a.table.now a.groups.now a.start c.refused.result (not-true _ k.if1.true) c.refused.ensures
 
 slice-aggregate-ranks : tie.Need-slice-aggregate-ranks
 slice-aggregate-ranks c =
@@ -77,7 +77,7 @@ returns-5 c =
     let k = c.before.before.before.before.before.before.before in
     let a = k.before.before.before.before.before.before.before.args in
     let t = k.before.before.test-order.ensures in
-    let wrong = sym c.before.before.is-lyndon-array.ensures ∙ not_true _ c.before.if5.true in
+    let wrong = sym c.before.before.is-lyndon-array.ensures ∙ not-true _ c.before.if5.true in
     part_table_wrong t lyndon_array lyndon_array_length (λ u. suffix_groups u a.start) a.pattern.now a.table.now a.groups.now a.start c.refused5.result (not-false _ k.if1.false) (search rules) (search rules) (search rules)
     (λ i h. omega (arith, k.before.before.before.before.before.before.shared-slice-known.given i)) wrong c.refused5.ensures
 

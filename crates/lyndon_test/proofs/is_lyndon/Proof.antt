@@ -1,7 +1,7 @@
 -- `lyndon_test::is_lyndon` meets its contract: a nonempty string is a Lyndon word exactly when its first factor is the whole of it.
 use lib.Seq.{length-take-le}
 use native.Mathlib.Omega.{arith}
-use borrow.Author.Tests.{not_true, not-false}
+use borrow.Author.Tests.{not-true, not-false}
 use lib.ListN.{take}
 use Rattle.lyndon_test.proofs.Told.{told_not_order, told_long, told_yes}
 use Rattle.lyndon_test.proofs.Whole.{empty_not_lyndon, whole_lyndon}
@@ -21,7 +21,7 @@ returns c =
     let k = c in
     let a = k.before.before.before.before.before.args in
     let t = k.before.before.test-order.ensures in
-    told_not_order t a.word.now (not_true _ k.if1.true)
+    told_not_order t a.word.now (not-true _ k.if1.true)
 
 slice-aggregate-ranks : tie.Need-slice-aggregate-ranks
 slice-aggregate-ranks c =

@@ -5,7 +5,7 @@ use mathlib.Core.Path.{refl, sym}
 use Prim.Native.Nat.{◌≤◌}
 use lib.ListN.{length, take}
 use lib.Seq.{length-take-le}
-use borrow.Author.Tests.{not_true, not-false}
+use borrow.Author.Tests.{not-true, not-false}
 use Rattle.text_lines.proofs.Lines.{listing_most}
 use Rattle.text.specs.Listing.{listing_by}
 use Rattle.lyndon_text.proofs.Listed.{not_listed, listed_long, listed_short, listed}
@@ -30,7 +30,7 @@ returns : tie.Need-returns
 returns c =
     let t = c.before.before.before in
     let a = t.before.before.before.before.args in
-    not_listed t.test-order.ensures (not_true _ c.before.if1.true) a.pattern.now a.text.now c.refused.ensures
+    not_listed t.test-order.ensures (not-true _ c.before.if1.true) a.pattern.now a.text.now c.refused.ensures
 
 slice-aggregate-ranks : tie.Need-slice-aggregate-ranks
 slice-aggregate-ranks c =

@@ -1,7 +1,7 @@
 -- `lyndon_tree::lyndon_tree` meets its contract: each way out is the outcome of the first refusal that holds, or of none.
 use lib.Seq.{length-take-le}
 use native.Mathlib.Omega.{arith}
-use borrow.Author.Tests.{not_true, not-false}
+use borrow.Author.Tests.{not-true, not-false}
 use Prim.Native.Nat.{◌*◌, ◌-◌}
 use lib.ListN.{length, take}
 use mathlib.Core.Path.{refl}
@@ -28,7 +28,7 @@ returns c =
     let k = c.before in
     let a = k.before.before.before.before.before.before.args in
     let t = k.before.before.test-order.ensures in
-    tree_not_order t a.word.now a.nodes.now c.refused.result (not_true _ k.if1.true) c.refused.ensures
+    tree_not_order t a.word.now a.nodes.now c.refused.result (not-true _ k.if1.true) c.refused.ensures
 
 slice-aggregate-ranks : tie.Need-slice-aggregate-ranks
 slice-aggregate-ranks c =

@@ -1,7 +1,7 @@
 -- `lyndon_trigger::longest_word_place` meets its contract: what is measured is the place of the first of the longest words.
 use lib.Seq.{length-take-le}
 use native.Mathlib.Omega.{arith}
-use borrow.Author.Tests.{not_true, not-false}
+use borrow.Author.Tests.{not-true, not-false}
 use Rattle.lyndon_trigger.proofs.Simple.{place_not_order, place_long, place_found}
 use borrow.Author.Rules.{rules}
 use Rattle.lyndon_trigger.proofs.longest_word_place.Statement.{statement}
@@ -19,7 +19,7 @@ returns c =
     let k = c in
     let a = k.before.before.before.before.before.args in
     let t = k.before.before.test-order.ensures in
-    place_not_order t a.pattern.now (not_true _ k.if1.true)
+    place_not_order t a.pattern.now (not-true _ k.if1.true)
 
 slice-aggregate-ranks : tie.Need-slice-aggregate-ranks
 slice-aggregate-ranks c =

@@ -1,7 +1,7 @@
 -- `lyndon_words::longest_words` meets its contract: each way out is the outcome of the first refusal that holds, or of none.
 use lib.Seq.{length-take-le}
 use native.Mathlib.Omega.{arith}
-use borrow.Author.Tests.{not_true, not-false}
+use borrow.Author.Tests.{not-true, not-false}
 use Rattle.lyndon_words.proofs.Simple.{starts_not_order, starts_long, starts_short, starts_done}
 use borrow.Author.Rules.{rules}
 use Rattle.lyndon_words.proofs.longest_words.Statement.{statement}
@@ -20,7 +20,7 @@ returns c =
     let k = c in
     let a = k.before.before.before.before.before.before.args in
     let t = k.before.before.test-order.ensures in
-    starts_not_order t a.pattern.now a.starts.now (not_true _ k.if1.true)
+    starts_not_order t a.pattern.now a.starts.now (not-true _ k.if1.true)
 
 slice-aggregate-ranks : tie.Need-slice-aggregate-ranks
 slice-aggregate-ranks c =

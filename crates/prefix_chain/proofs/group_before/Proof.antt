@@ -2,7 +2,7 @@
 use mathlib.Core.Path.{◌≡◌}
 use Prim.Native.Nat.{◌-◌}
 use lib.ListN.{length}
-use borrow.Author.Tests.{not_true, not-false}
+use borrow.Author.Tests.{not-true, not-false}
 use Rattle.ranks.specs.Ranks.{Bytes, ranked}
 use Rattle.ranks.proofs.Ranked.{length_ranked}
 use Rattle.prefix_chain.proofs.Before.{
@@ -112,7 +112,7 @@ returns-2 c =
     let f = l.before.before.before.before.before in
     let e = table_entry f.args.ranks.now f.args.s.now f.args.table.now f.requires.3 l.loop.j (search rules) (search rules) in
     let bytes : Bytes f.args.s.now = λ i h. omega (arith, l.before.before.before.before.shared-slice-known.given i) in
-    stop_word f.requires.0 f.args.s.now bytes l.loop.invariant.0 (search rules) e (search rules) c.before.agree.ensures (not_true _ c.if2.true)
+    stop_word f.requires.0 f.args.s.now bytes l.loop.invariant.0 (search rules) e (search rules) c.before.agree.ensures (not-true _ c.if2.true)
 
 add-power : tie.Need-overflow-add-power invariant-loop decreases-loop
 add-power c = search rules

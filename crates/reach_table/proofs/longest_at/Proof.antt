@@ -3,7 +3,7 @@ use mathlib.Core.Path.{◌≡◌, refl, ◌∙◌}
 use lib.ListN.{length}
 use Rattle.ranks.specs.Ranks.{ranked}
 use Rattle.ranks.proofs.Ranked.{length_ranked}
-use borrow.Author.Tests.{not_true, not-false}
+use borrow.Author.Tests.{not-true, not-false}
 use Rattle.memo.specs.Memo.{Memo}
 use Rattle.reach_table.proofs.Reach.{grown_start, next_some, next_fits, grown_end}
 use Rattle.reach_table.proofs.Merging.{Merging, merging_start, merging_known, merging_place, merging_turn, merging_stop, merging_slot}
@@ -67,7 +67,7 @@ keep-requires c κs =
     let y = c.before.before.before.before.before.before.entry in
     let next = y.ensures ∙ a.requires.2.right l.loop.j (omega (arith, m.grown.some)) h in
     let w = c.before.before.before.before.beside in
-    let up = not_true w.result.up c.before.before.if1.true in
+    let up = not-true w.result.up c.before.before.if1.true in
     (l.loop.invariant.1, omega (arith, m.grown.some, h, f), merging_slot m y.result w.result.e w.result.up w.ensures next h up c.best.result c.best.ensures)
 
 sub-result : tie.Need-overflow-sub-result invariant-loop decreases-loop
@@ -86,7 +86,7 @@ returns c =
     let y = c.before.before.before.before.before.before.before.before.before.entry in
     let next = y.ensures ∙ a.requires.2.right l.loop.j (omega (arith, m.grown.some)) h in
     let w = c.before.before.before.before.before.before.before.beside in
-    let up = not_true w.result.up c.before.before.before.before.before.if1.true in
+    let up = not-true w.result.up c.before.before.before.before.before.if1.true in
     record { entry = merging_stop m y.result w.result.e w.result.up w.ensures next h up; remains = c.before.before.keep.ensures }
 
 sub-d : tie.Need-overflow-sub-d invariant-loop decreases-loop

@@ -3,7 +3,7 @@ use mathlib.Core.Path.{◌≡◌, ◌∙◌}
 use lib.ListN.{length}
 use Rattle.ranks.specs.Ranks.{ranked}
 use Rattle.ranks.proofs.Ranked.{length_ranked}
-use borrow.Author.Tests.{not_true, not-false}
+use borrow.Author.Tests.{not-true, not-false}
 use Rattle.reach_table.proofs.Reach.{Grown}
 use Rattle.reach_table.proofs.Reach.{grown_start, grown_turn, grown_stop, grown_end, next_some, next_fits}
 use Prim.Native.Nat.{◌-◌}
@@ -56,7 +56,7 @@ returns c =
     let y = c.before.before.before.entry in
     let next = y.ensures ∙ a.requires.2.right l.loop.j (omega (arith, l.loop.invariant.0.some)) h in
     let w = c.before.before.beside-anew in
-    grown_stop l.loop.invariant.0 y.result next h w.ensures.less (not_true w.result.up c.if1.true)
+    grown_stop l.loop.invariant.0 y.result next h w.ensures.less (not-true w.result.up c.if1.true)
 
 add-j-2 : tie.Need-overflow-add-j-2 invariant-loop decreases-loop
 add-j-2 c =

@@ -2,7 +2,7 @@
 use mathlib.Core.Path.{◌≡◌, ◌∙◌}
 use Prim.Native.Nat.{◌-◌}
 use lib.ListN.{length as size, get_or}
-use borrow.Author.Tests.{not_true, not-false}
+use borrow.Author.Tests.{not-true, not-false}
 use Rattle.ranks.specs.Ranks.{Bytes, ranked}
 use Rattle.ranks.proofs.Ranked.{length_ranked}
 use Rattle.suffix_chain.proofs.After.{Equal, equal_start, equal_turn, stop_end, stop_length, stop_word, array_room, array_entry, array_fits, same_words}
@@ -97,7 +97,7 @@ returns-2 c =
     let e = array_entry f.args.ranks.now f.args.s.now f.args.table.now f.requires.2 l.loop.j (search rules) in
     let b : Bytes f.args.s.now = λ k h. omega (arith, l.before.before.before.before.shared-slice-known.given k) in
     let parts = same_words f.requires.0 f.args.s.now b f.args.i l.loop.j (get_or f.args.table.now f.args.i 0) in
-    stop_word l.loop.invariant.0 (search rules) e (search rules) (c.before.agree.ensures ∙ parts) (not_true _ c.if2.true)
+    stop_word l.loop.invariant.0 (search rules) e (search rules) (c.before.agree.ensures ∙ parts) (not-true _ c.if2.true)
 
 add-power : tie.Need-overflow-add-power invariant-loop decreases-loop
 add-power c = search rules
