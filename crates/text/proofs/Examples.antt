@@ -2,7 +2,7 @@
 use mathlib.Core.List.{List}
 use mathlib.Core.Path.{◌≡◌, refl}
 use Prim.Native.Nat.{ℕ, ◌-◌}
-use Rattle.hex.specs.Hex.{pair_of}
+use Rattle.hex_digits.specs.Hex.{pair_of}
 use Rattle.words.specs.Bounded.{table}
 use Rattle.words.specs.Order.{shared}
 use Rattle.words.specs.Factors.{factors}

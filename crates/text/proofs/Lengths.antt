@@ -4,7 +4,7 @@ use mathlib.Core.Path.{◌≡◌, refl, ap, ◌∙◌}
 use Prim.Native.Nat.{ℕ, ◌+◌, ◌*◌, ◌≤◌, ◌<◌}
 use native.Mathlib.Omega.{arith}
 use lib.ListN.{length, length-append}
-use Rattle.hex.specs.Hex.{pair_of}
+use Rattle.hex_digits.specs.Hex.{pair_of}
 use Rattle.decimal.specs.Decimal.{codes, digit_count, decimal}
 use Rattle.decimal.proofs.Decimal.{count_least, length_decimal}
 use Rattle.text.specs.Hexadecimal.{hexadecimal}

@@ -6,7 +6,7 @@ use native.Mathlib.Numerals.{add-one}
 use native.Mathlib.Omega.{arith}
 use lib.ListN.{length, drop, get_or, set}
 use lib.Seq.{drop-cons}
-use Rattle.hex.specs.Hex.{pair_of}
+use Rattle.hex_digits.specs.Hex.{pair_of}
 use Rattle.rows.proofs.Wrote.{Wrote, wrote_one, wrote_room}
 use Rattle.text.specs.Hexadecimal.{hexadecimal}
 

@@ -7,7 +7,7 @@ ghost use Rattle.text.specs.Listing.{field, last_field};
 ghost use Rattle.rows.specs.Written.{Room, Puts};
 
 use decimal::write_decimal;
-use hex::{digit_list, pair_of};
+use hex_digits::{digit_list, pair_of};
 use rows::write_bytes;
 
 const LINE_END: [u8; 2] = *b"\r\n";

@@ -1,0 +1,26 @@
+-- `byte_leaps::pair_block` meets its contract: where all bytes before place j + u passed, they are above c, or c with one above d behind.
+use mathlib.Core.Path.{◌≡◌}
+use Rattle.rising.proofs.Rising.{risen_none, risen_test}
+use Prim.Native.Nat.{◌+◌, ◌-◌}
+use lib.Dec.{ltb}
+use lib.ListN.{get_or}
+use borrow.Author.Tests.{ltb-true}
+use borrow.Author.Rules.{rules}
+use native.Mathlib.Omega.{arith}
+use Rattle.byte_leaps.proofs.pair_block.Goals as goal
+
+pub loop-u-init : goal.loop-u-init
+loop-u-init c =
+    let e : c.args.j + 0 ≡ c.args.j = omega arith in
+    (search rules, λ t. rw e risen_none)
+
+pub loop-u-preserved : goal.loop-u-preserved
+loop-u-preserved c =
+    let a = c.args in
+    let e : a.j + (c.loop-u.u + 1) ≡ a.j + c.loop-u.u + 1 = omega arith in
+    (search rules, λ t. rw e (risen_test c.loop-u.all (ltb a.d (get_or a.s.now (a.j + c.loop-u.u + 1) 0)) c.loop-u.invariant.1 (ltb-true a.d (get_or a.s.now (a.j + c.loop-u.u + 1) 0)) t))
+
+pub returns : goal.returns
+returns c =
+    let e : c.loop-u.u ≡ 16 = omega arith in
+    λ t. rw e at (c.loop-u.invariant.1 t)

@@ -1,0 +1,19 @@
+-- `scan::next_group` meets its contract: both loops keep the state of Duval's scan, and where it stops the group is read off.
+use mathlib.Core.Path.{◌≡◌}
+use Prim.Native.Nat.{◌-◌, ◌≤◌, ◌<◌}
+use lib.ListN.{length}
+use Rattle.words.proofs.Scan.{Scan}
+use Rattle.ranks.specs.Ranks.{ranked}
+use Rattle.scan.proofs.next_group.Given as goal
+
+abbrev pub invariant-loop-j-2 : goal.invariant-loop-j-2
+invariant-loop-j-2 l = (l.j ≤ l.stop) × Scan (ranked l.ranks l.s) l.i l.j l.p × (length (ranked l.ranks l.s) ≡ length l.s)
+
+abbrev pub decreases-loop-j-2 : goal.decreases-loop-j-2
+decreases-loop-j-2 l = l.stop - l.j
+
+abbrev pub invariant-loop-j : goal.invariant-loop-j
+invariant-loop-j l = (0 < l.gap) × (l.gap ≤ 64) × Scan (ranked l.ranks l.s) l.i l.j l.p × (length (ranked l.ranks l.s) ≡ length l.s)
+
+abbrev pub decreases-loop-j : goal.decreases-loop-j
+decreases-loop-j l = length l.s - l.j
