@@ -9,6 +9,7 @@ use Rattle.ranks.proofs.Ranked.{length_ranked, ranks_agree, ranks_below}
 use Rattle.scan.proofs.Next.{next_group, turn_same, turn_up, stop_smaller, stop_end, turned}
 use borrow.Author.Rules.{rules}
 use Rattle.scan.proofs.next_group.Goals as goal
+use Rattle.scan.proofs.next_group.Goals.{then-x-y+else-below, else-x-y}
 
 pub loop-j-init : goal.loop-j-init
 loop-j-init c =
@@ -26,7 +27,19 @@ returns-then-below c =
     next_group c.loop-j-2.invariant.1 (stop_smaller c.loop-j-2.invariant.1 (ranks_below a.ranks.now a.s.now a.s.now c.loop-j-2.j (c.loop-j-2.j - c.loop-j-2.p) (search rules) (search rules) h))
 
 pub loop-j-2-preserved : goal.loop-j-2-preserved
-loop-j-2-preserved c = ?
+loop-j-2-preserved c =
+    let a = c.args in
+    let x : c.loop-j-2.j - c.loop-j-2.p < length a.s.now = search rules in
+    let y : c.loop-j-2.j < length a.s.now = search rules in (
+      search rules,
+      elim c.if-x-y.branch [
+        then-x-y+else-below w ↦
+          rw w.p-is (turn_up c.loop-j-2.invariant.1 (search rules) (ranks_below a.ranks.now a.s.now a.s.now (c.loop-j-2.j - c.loop-j-2.p) c.loop-j-2.j x y (w.below.ensures.no w.if-below.false (turned w.if-x-y.true))))
+      | else-x-y w ↦
+          rw w.p-is (turn_same c.loop-j-2.invariant.1 (search rules) (ranks_agree a.ranks.now a.s.now a.s.now (c.loop-j-2.j - c.loop-j-2.p) c.loop-j-2.j x y w.if-x-y.false))
+      ],
+      c.loop-j-2.invariant.2,
+    )
 
 pub leap-m-requires : goal.leap-m-requires
 leap-m-requires c =
