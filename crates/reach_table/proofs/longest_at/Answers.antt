@@ -35,7 +35,7 @@ keep-requires c =
     (c.loop-j.invariant.1, omega (arith, m.grown.some, h, f), merging_slot m y.result w.result.e w.result.up w.ensures next h up c.best.result c.best.ensures)
 
 pub shape_of-memo-then-not-next : goal.shape_of-memo-then-not-next
-shape_of-memo-then-not-next c = c.keep.auto.1.1.0 ∙ c.loop-j.invariant.0
+shape_of-memo-then-not-next c = c.keep.auto.memo ∙ c.loop-j.invariant.0
 
 pub returns-then-not-next : goal.returns-then-not-next
 returns-then-not-next c =
