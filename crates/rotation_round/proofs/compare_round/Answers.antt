@@ -41,8 +41,8 @@ pub slice_bounds-compare-end : goal.slice_bounds-compare-end
 slice_bounds-compare-end c =
     sym (length-take-le _ c.args.s.now (omega (arith, word_inside c.args.ranks.now c.args.s.now c.requires.1)))
 
-pub slice_bounds-compare-end : goal.slice_bounds-compare-end
-slice_bounds-compare-end c =
+pub slice_bounds-compare-end-2 : goal.slice_bounds-compare-end-2
+slice_bounds-compare-end-2 c =
     search (rules, word_inside c.args.ranks.now c.args.s.now c.requires.1)
 
 pub returns : goal.returns
