@@ -7,10 +7,11 @@ ghost use Rattle.text.specs.Inner.{max_listing};
 ghost use Rattle.text.specs.Listing.{Begins};
 ghost use Rattle.listing.specs.Output.{output};
 
-use libc::{STDIN_FILENO, STDOUT_FILENO};
 use lyndon_text::write_listing;
 use order_bytes::fill_byte_order;
 use refusals::MAX_PATTERN;
+use std::io;
+use streams::read_full;
 use symbols::ORDER;
 use text::MAX_LISTING;
 use text_writers::write_refusal;
@@ -29,10 +30,10 @@ fn write_output(pattern: &[u8], text: &mut [u8]) -> usize
     answer.count
 }
 
-fn main() {
+fn main(rt: HostRuntime) -> io::Result<()> {
     let mut pattern = [0u8; MAX_PATTERN + 1];
-    let n = io::read_full(STDIN_FILENO, &mut pattern);
+    let n = read_full(&mut rt.stdin(), &mut pattern)?;
     let mut text = [0u8; MAX_LISTING];
     let count = write_output(&pattern[..n], &mut text);
-    io::write_all(STDOUT_FILENO, &text[..count]);
+    rt.write_all(&text[..count])
 }
