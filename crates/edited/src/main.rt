@@ -1,6 +1,7 @@
 // Prints the edited listing of the pattern, the block and the edit in three files of the working folder, or the refusal line. A file that
 // can't be opened or read is empty; of each file one byte is read past the longest that is accepted. What is to be printed for
-// the bytes that were read is made and proved in `edited_output::write_output`; `main` reads and writes.
+// the bytes that were read is made and proved in `edited_output::write_output`; `main` reads and writes. Where writing fails, the status
+// alone says so: a message would take read-only memory, which is short.
 #![tactic(auto)]
 
 ghost use Rattle.std.specs.Prelude.{◌≡◌, ◌≤◌, length, take};
@@ -8,7 +9,7 @@ ghost use Rattle.std.specs.Prelude.{◌≡◌, ◌≤◌, length, take};
 use edited_output::write_output;
 use refusals::{MAX_BLOCK, MAX_PATTERN};
 use std::fs::File;
-use std::io;
+use std::process::ExitCode;
 use std::rt::Files;
 use streams::read_full;
 use text::MAX_LISTING;
@@ -32,7 +33,7 @@ fn read_file(files: &impl Files, path: &str, bytes: &mut [u8]) -> usize
     }
 }
 
-fn main(rt: HostRuntime) -> io::Result<()> {
+fn main(rt: HostRuntime) -> ExitCode {
     let mut pattern = [0u8; MAX_PATTERN + 1];
     let n = read_file(&rt, PATTERN, &mut pattern);
     let mut block = [0u8; MAX_BLOCK + 1];
@@ -41,5 +42,8 @@ fn main(rt: HostRuntime) -> io::Result<()> {
     let c = read_file(&rt, EDIT, &mut csv);
     let mut text = [0u8; MAX_LISTING];
     let count = write_output(&pattern[..n], &block[..b], &csv[..c], &mut text);
-    rt.write_all(&text[..count])
+    match rt.write_all(&text[..count]) {
+        Ok(()) => ExitCode::SUCCESS,
+        Err(_) => ExitCode::FAILURE,
+    }
 }
