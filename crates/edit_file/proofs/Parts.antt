@@ -4,7 +4,6 @@ use mathlib.Core.List.{List, ◌∷◌, ◌++◌}
 use mathlib.Core.Path.{◌≡◌, sym, ap, ◌∙◌}
 use Prim.Native.Nat.{ℕ, ◌-◌, ◌≤◌}
 use native.Mathlib.Omega.{arith}
-use borrow.Author.Tests.{not-true, not-false}
 use lib.ListN.{length, take, drop, length-drop, take-append-drop}
 use lib.Seq.{take_all}
 use Rattle.words.specs.Order.{same}
@@ -15,11 +14,11 @@ use Rattle.edit_file.specs.Fields.{Closes}
 use Rattle.edit_file.proofs.Only.{front_only}
 
 -- the answer of a comparison
-pub differ : {x y : List ℕ} {b : Bool} → b ≡ same x y → not b ≡ true → x ≡ y → ⊥
-differ {x} {y} {b} e t = same_false x y (sym e ∙ not-true b t)
+pub differ : {x y : List ℕ} {b : Bool} → b ≡ same x y → b ≡ false → x ≡ y → ⊥
+differ {x} {y} e t = same_false x y (sym e ∙ t)
 
-pub equal : {x y : List ℕ} {b : Bool} → b ≡ same x y → not b ≡ false → x ≡ y
-equal {x} {y} {b} e t = same_true x y (sym e ∙ not-false b t)
+pub equal : {x y : List ℕ} {b : Bool} → b ≡ same x y → b ≡ true → x ≡ y
+equal {x} {y} e t = same_true x y (sym e ∙ t)
 
 -- what a slice holds from place i on
 abbrev pub tail : ℕ → List ℕ → List ℕ

@@ -17,10 +17,10 @@ use borrow.Author.Rules.{rules}
 use Rattle.block_place.proofs.locate.Goals as goal
 
 -- the second and third variant
-other-said : (r : Header) {x : ℕ} → OneOf (1 ∷ 2 ∷ []) (tag_of the_type r) → HeaderOf x r → (x ≡ 48) ⊎ ((x < 48) ⊎ (57 < x))
-other-said (Definite digits) t h = absurd (⊎_elim (λ e. omega (arith, e)) (λ e. omega (arith, e)) t)
-other-said Indefinite t h = inl h
-other-said Other t h = inr h
+other_said : (r : Header) {x : ℕ} → ((digits : ℕ) → r ≡ Definite digits → ⊥) → HeaderOf x r → (x ≡ 48) ⊎ ((x < 48) ⊎ (57 < x))
+other_said (Definite digits) t h = absurd (t digits refl)
+other_said Indefinite t h = inl h
+other_said Other t h = inr h
 
 pub returns-then-size-lt2 : goal.returns-then-size-lt2
 returns-then-size-lt2 c = too_few (search rules)
@@ -29,64 +29,64 @@ pub returns-then-block-ne35 : goal.returns-then-block-ne35
 returns-then-block-ne35 c = not_marked c.if-block-ne35.true
 
 pub returns-in_default : goal.returns-in_default
-returns-in_default c = λ place count b. not_said (other-said c.header_of.result c.in_default.keys2 c.header_of.ensures) refl (block_placed b)
+returns-in_default c = λ place count b. not_said (other_said c.header_of.result c.in_default.not-Definite c.header_of.ensures) refl (block_placed b)
 
 pub overflow_add-place : goal.overflow_add-place
 overflow_add-place c =
-    let header = rw c.digits-1.given.1 at c.header_of.ensures in
+    let header = c.in-Definite.ensures in
     omega (arith, header.2)
 
 pub returns-then-size-place : goal.returns-then-size-place
 returns-then-size-place c =
     let block = c.args.block.now in
-    let n = c.digits-1.given.0.0 in
-    let header = rw c.digits-1.given.1 at c.header_of.ensures in
+    let n = c.in-Definite.digits in
+    let header = c.in-Definite.ensures in
     cut_short block n header.0 (search rules)
 
 pub returns-then-leading_digits-digits : goal.returns-then-leading_digits-digits
 returns-then-leading_digits-digits c =
     let block = c.args.block.now in
-    let n = c.digits-1.given.0.0 in
-    let header = rw c.digits-1.given.1 at c.header_of.ensures in
+    let n = c.in-Definite.digits in
+    let header = c.in-Definite.ensures in
     not_digits block n header.0 (omega arith) c.leading_digits.ensures (search rules)
 
 pub slice_bounds-value_of-count : goal.slice_bounds-value_of-count
 slice_bounds-value_of-count c =
-    let header = rw c.digits-1.given.1 at c.header_of.ensures in
+    let header = c.in-Definite.ensures in
     omega (arith, header.1)
 
 pub slice_bounds-value_of-start : goal.slice_bounds-value_of-start
 slice_bounds-value_of-start c =
-    let header = rw c.digits-1.given.1 at c.header_of.ensures in
+    let header = c.in-Definite.ensures in
     omega (arith, header.1)
 
 pub value_of-count-requires : goal.value_of-count-requires
 value_of-count-requires c =
     let block = c.args.block.now in
-    let n = c.digits-1.given.0.0 in
-    let header = rw c.digits-1.given.1 at c.header_of.ensures in
+    let n = c.in-Definite.digits in
+    let header = c.in-Definite.ensures in
     (omega (arith, header.2, length_field block n header.0 (omega arith)), all_digits block n header.0 (omega arith) c.leading_digits.ensures (omega arith))
 
 pub overflow_add-place-2 : goal.overflow_add-place-2
 overflow_add-place-2 c =
     let block = c.args.block.now in
-    let n = c.digits-1.given.0.0 in
-    let header = rw c.digits-1.given.1 at c.header_of.ensures in
+    let n = c.in-Definite.digits in
+    let header = c.in-Definite.ensures in
     let small = read_nine (field block n) (omega (arith, header.2, length_field block n header.0 (omega arith))) (all_digits block n header.0 (omega arith) c.leading_digits.ensures (omega arith)) in
-    omega (arith, header.2, small, c.value_of_lem.ensures)
+    omega (arith, header.2, small, c.value_of-count.ensures)
 
 pub returns-then-not-ends_at : goal.returns-then-not-ends_at
 returns-then-not-ends_at c =
     let block = c.args.block.now in
-    let n = c.digits-1.given.0.0 in
-    let header = rw c.digits-1.given.1 at c.header_of.ensures in
-    not_ended block n header.0 c.value_of_lem.ensures (sym c.ends_at.ensures ∙ c.if-not-ends_at.true)
+    let n = c.in-Definite.digits in
+    let header = c.in-Definite.ensures in
+    not_ended block n header.0 c.value_of-count.ensures (sym c.ends_at.ensures ∙ c.if-not-ends_at.true)
 
 pub returns : goal.returns
 returns c =
     let block = c.args.block.now in
-    let n = c.digits-1.given.0.0 in
-    let header = rw c.digits-1.given.1 at c.header_of.ensures in
+    let n = c.in-Definite.digits in
+    let header = c.in-Definite.ensures in
     let mark = c.if-block-ne35.false in
     let numeral = all_digits block n header.0 (omega arith) c.leading_digits.ensures (omega arith) in
-    ended block n header.0 c.value_of_lem.ensures mark header.1 header.2 numeral (sym c.ends_at.ensures ∙ c.if-not-ends_at.false)
+    ended block n header.0 c.value_of-count.ensures mark header.1 header.2 numeral (sym c.ends_at.ensures ∙ c.if-not-ends_at.false)

@@ -31,4 +31,4 @@ value_of-requires c =
 pub returns : goal.returns
 returns c =
     let l = c.leading_digits-count.ensures in
-    closes l c.args.close (search rules) (search rules) (search rules) (search rules) c.value_of_lem.ensures
+    closes l c.args.close (search rules) (search rules) (search rules) (search rules) c.value_of.ensures

@@ -17,43 +17,43 @@ returns-then-not-agree c = λ from to f. differ c.agree.ensures c.if-not-agree.t
 
 pub returns-in_default : goal.returns-in_default
 returns-in_default c =
-    let missing = rw c.enum_told-1.given.1 at c.first_field.ensures in
+    let missing = c.in_default.ensures in
     λ from to f. missing f.first from _ f.from_reads (file_line f)
 
 pub slice_bounds-rest-count : goal.slice_bounds-rest-count
 slice_bounds-rest-count c =
-    let first = rw c.first-1.given.1 at c.first_field.ensures in
+    let first = c.in-Number.ensures in
     closes_fits first
 
 pub slice_bounds-rest-start : goal.slice_bounds-rest-start
 slice_bounds-rest-start c =
-    let first = rw c.first-1.given.1 at c.first_field.ensures in
+    let first = c.in-Number.ensures in
     closes_fits first
 
 pub returns-in_default-first_field : goal.returns-in_default-first_field
 returns-in_default-first_field c =
-    let first = rw c.first-1.given.1 at c.first_field.ensures in
-    let missing = rw c.enum_told-in_default-first_field-1.given.1 at c.first_field-2.ensures in
+    let first = c.in-Number.ensures in
+    let missing = c.in_default-first_field.ensures in
     λ from to f. missing f.second to _ f.to_reads (file_rest first f)
 
 pub slice_bounds-agree-count : goal.slice_bounds-agree-count
 slice_bounds-agree-count c =
-    let second = rw c.second-1.given.1 at c.first_field-2.ensures in
+    let second = c.in-Number-first_field.ensures in
     closes_fits second
 
 pub slice_bounds-agree-start : goal.slice_bounds-agree-start
 slice_bounds-agree-start c =
-    let second = rw c.second-1.given.1 at c.first_field-2.ensures in
+    let second = c.in-Number-first_field.ensures in
     closes_fits second
 
 pub returns-then-not-agree-2 : goal.returns-then-not-agree-2
 returns-then-not-agree-2 c =
-    let first = rw c.first-1.given.1 at c.first_field.ensures in
-    let second = rw c.second-1.given.1 at c.first_field-2.ensures in
+    let first = c.in-Number.ensures in
+    let second = c.in-Number-first_field.ensures in
     λ from to f. differ c.agree-2.ensures c.if-not-agree-2.true (file_end first second f)
 
 pub returns : goal.returns
 returns c =
-    let first = rw c.first-1.given.1 at c.first_field.ensures in
-    let second = rw c.second-1.given.1 at c.first_field-2.ensures in
+    let first = c.in-Number.ensures in
+    let second = c.in-Number-first_field.ensures in
     file_says first second (equal c.agree.ensures c.if-not-agree.false) (equal c.agree-2.ensures c.if-not-agree-2.false)

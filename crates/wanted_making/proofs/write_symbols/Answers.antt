@@ -14,10 +14,10 @@ pub loop-k-init : goal.loop-k-init
 loop-k-init c = (omega arith, counted_none c.args.table.now (max_wanted + 1) (omega (arith, c.requires.0)))
 
 pub overflow_cast-end : goal.overflow_cast-end
-overflow_cast-end c = omega (arith, c.shared_slice_known-1.given c.loop-k.k)
+overflow_cast-end c = omega (arith, c.type_inv.table c.loop-k.k)
 
 pub overflow_add-end : goal.overflow_add-end
-overflow_add-end c = omega (arith, c.shared_slice_known-1.given c.loop-k.k)
+overflow_add-end c = omega (arith, c.type_inv.table c.loop-k.k)
 
 pub bounds-children-end : goal.bounds-children-end
 bounds-children-end c =
@@ -26,7 +26,7 @@ bounds-children-end c =
     omega (arith, c.requires.2.within i h)
 
 pub offset_bounds-children-end : goal.offset_bounds-children-end
-offset_bounds-children-end c = omega (arith, array-read-children c)
+offset_bounds-children-end c = omega (arith, bounds-children-end c)
 
 pub overflow_add-children : goal.overflow_add-children
 overflow_add-children c =
@@ -35,7 +35,10 @@ overflow_add-children c =
     omega (arith, counted_few c.requires.2 h c.loop-k.invariant.1)
 
 pub bounds-children-end-in-loop-k : goal.bounds-children-end-in-loop-k
-bounds-children-end-in-loop-k c = array-read-children c
+bounds-children-end-in-loop-k c =
+    let i = c.loop-k.k in
+    let h : i < length c.args.table.now = omega arith in
+    omega (arith, c.requires.2.within i h)
 
 pub loop-k-preserved : goal.loop-k-preserved
 loop-k-preserved c =
@@ -51,10 +54,10 @@ loop-i-init c =
     (omega arith, rw e at c.loop-k.invariant.1, filled_none (symbol_at t) (length t) a.pattern.now (length t))
 
 pub overflow_cast-end-in-loop-i : goal.overflow_cast-end-in-loop-i
-overflow_cast-end-in-loop-i c = omega (arith, c.shared_slice_known-in-loop-i-1.given (c.loop-i.i - 1))
+overflow_cast-end-in-loop-i c = omega (arith, c.type_inv.table (c.loop-i.i - 1))
 
 pub overflow_add-end-in-loop-i : goal.overflow_add-end-in-loop-i
-overflow_add-end-in-loop-i c = omega (arith, c.shared_slice_known-in-loop-i-1.given (c.loop-i.i - 1))
+overflow_add-end-in-loop-i c = omega (arith, c.type_inv.table (c.loop-i.i - 1))
 
 pub bounds-children-end-in-loop-i : goal.bounds-children-end-in-loop-i
 bounds-children-end-in-loop-i c =
@@ -63,7 +66,7 @@ bounds-children-end-in-loop-i c =
     omega (arith, c.requires.2.within i h)
 
 pub offset_bounds-children-end-in-loop-i : goal.offset_bounds-children-end-in-loop-i
-offset_bounds-children-end-in-loop-i c = omega (arith, array-read-earlier c)
+offset_bounds-children-end-in-loop-i c = omega (arith, bounds-children-end-in-loop-i c)
 
 pub overflow_sub-earlier : goal.overflow_sub-earlier
 overflow_sub-earlier c =
@@ -72,10 +75,16 @@ overflow_sub-earlier c =
     omega (arith, counted_some c.requires.2 h (omega arith) c.loop-i.invariant.1)
 
 pub offset_bounds-children-end-in-loop-i-2 : goal.offset_bounds-children-end-in-loop-i-2
-offset_bounds-children-end-in-loop-i-2 c = mul-earlier c
+offset_bounds-children-end-in-loop-i-2 c =
+    let i = c.loop-i.i - 1 in
+    let h : i < length c.args.table.now = omega arith in
+    omega (arith, c.requires.2.within i h)
 
 pub bounds-children-end-in-loop-i-2 : goal.bounds-children-end-in-loop-i-2
-bounds-children-end-in-loop-i-2 c = array-read-earlier c
+bounds-children-end-in-loop-i-2 c =
+    let i = c.loop-i.i - 1 in
+    let h : i < length c.args.table.now = omega arith in
+    omega (arith, c.requires.2.within i h)
 
 pub bounds-pattern-end : goal.bounds-pattern-end
 bounds-pattern-end c = omega (arith, c.loop-i.invariant.2.size)
@@ -87,10 +96,10 @@ overflow_add-pattern-then-end-n c =
     omega (arith, below_fits c.requires.2 h (omega arith) c.loop-i.invariant.1 c.loop-i.invariant.2 (omega arith))
 
 pub overflow_add-pattern : goal.overflow_add-pattern
-overflow_add-pattern c = omega (arith, add-pattern-2 c)
+overflow_add-pattern c = omega (arith, overflow_add-pattern-then-end-n c)
 
 pub overflow_cast-pattern : goal.overflow_cast-pattern
-overflow_cast-pattern c = omega (arith, add-pattern-2 c)
+overflow_cast-pattern c = omega (arith, overflow_add-pattern-then-end-n c)
 
 pub bounds-pattern-i : goal.bounds-pattern-i
 bounds-pattern-i c = omega (arith, c.loop-i.invariant.2.size)
