@@ -1,6 +1,5 @@
 -- `prefix_testing::is_last_factors` meets its contract: the entries before `start` are right, and that is the start of a factor or the end.
 use mathlib.Core.Path.{◌≡◌}
-use Prim.Native.Nat.{◌-◌}
 use lib.ListN.{length}
 use Rattle.ranks.specs.Ranks.{ranked}
 use Rattle.ranks.proofs.Ranked.{length_ranked}

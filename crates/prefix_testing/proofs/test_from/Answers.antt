@@ -1,5 +1,5 @@
 -- `prefix_testing::test_from` meets its contract: the loops keep the state of Duval's scan and that the entries up to `end` are right.
-use Prim.Native.Nat.{◌-◌, ◌<◌}
+use Prim.Native.Nat.{◌<◌}
 use lib.ListN.{length}
 use Rattle.ranks.specs.Ranks.{ranked}
 use Rattle.ranks.proofs.Ranked.{length_ranked}
@@ -162,10 +162,10 @@ loop-end-2-preserved c =
       omega (arith, t),
       v.1,
       elim c.if-old-new.branch [
-        then-old-new+else-below+else-table-end w ↦
-          rw w.size-is (testing_up c.requires.1 row v.2 l (turn_greater o s v.2.scan l w.below.ensures w.if-below.false w.if-old-new.true) w.if-table-end.false)
-      | else-old-new+else-table-end-2 w ↦
-          rw w.size-is (testing_same c.requires.1 row v.2 l (turn_equal o s v.2.scan l w.if-old-new.false) w.if-table-end-2.false)
+        | then-old-new+else-below+else-table-end w ↦
+            rw w.size-is (testing_up c.requires.1 row v.2 l (turn_greater o s v.2.scan l w.below.ensures w.if-below.false w.if-old-new.true) w.if-table-end.false)
+        | else-old-new+else-table-end-2 w ↦
+            rw w.size-is (testing_same c.requires.1 row v.2 l (turn_equal o s v.2.scan l w.if-old-new.false) w.if-table-end-2.false)
       ],
       v.3,
     )
