@@ -1,5 +1,5 @@
 // Groups as records, stored to a lent row of records from a row of numbers.
-// The only code that touches a slice of structs; its proof follows the code by hand, so it is kept thin.
+// The only code that writes to a slice of structs.
 #![tactic(auto)]
 
 ghost use Rattle.std.specs.Prelude.{◌≡◌, ◌<◌, ◌≤◌, ◌+◌, ◌*◌, length};

@@ -4,9 +4,10 @@
 
 ghost use Rattle.std.specs.Prelude.{◌≤◌, length};
 
-use libc::{STDIN_FILENO, STDOUT_FILENO};
 use lyndon_trigger::longest_word;
 use order_bytes::fill_byte_order;
+use std::io;
+use streams::read_full;
 use symbols::ORDER;
 
 // Where the line ends that begins at a place: at the line feed, or at the end of the text.
@@ -25,21 +26,22 @@ fn line_end(text: &[u8], at: usize) -> usize
 }
 
 // Prints the trigger word of each line.
-fn print_words(text: &[u8], order: &[u8]) {
+fn print_words(rt: &impl Print, text: &[u8], order: &[u8]) -> io::Result<()> {
     let mut at = 0;
     while at < text.len() {
         let end = line_end(text, at);
         let word = longest_word(&text[at..end], order);
-        io::write_all(STDOUT_FILENO, word);
-        io::write_all(STDOUT_FILENO, b"\n");
+        rt.write_all(word)?;
+        rt.write_all(b"\n")?;
         at = end + 1;
     }
+    Ok(())
 }
 
-fn main() {
+fn main(rt: HostRuntime) -> io::Result<()> {
     let mut order = [0u8; ORDER];
     fill_byte_order(&mut order);
     let mut text = [0u8; 4096];
-    let n = io::read_full(STDIN_FILENO, &mut text);
-    print_words(&text[..n], &order);
+    let n = read_full(&mut rt.stdin(), &mut text)?;
+    print_words(&rt, &text[..n], &order)
 }

@@ -3,16 +3,7 @@ use mathlib.Core.Path.{◌≡◌}
 use Prim.Native.Nat.{◌-◌}
 use lib.ListN.{length}
 use Rattle.ranks.specs.Ranks.{ranked}
-use Rattle.prefix_chain.proofs.Before.{
-  Equal,
-  equal_start,
-  equal_turn,
-  stop_start,
-  stop_length,
-  stop_word,
-  table_room,
-  table_entry,
-  table_fits,
+use Rattle.prefix_chain.proofs.Before.{Equal, }
 use Rattle.prefix_chain.proofs.group_before.Given as goal
 
 abbrev pub invariant-loop-j : goal.invariant-loop-j

@@ -1,0 +1,34 @@
+-- `prefix_testing_leaps::test_above` meets its contract: block by block the entries up to j are right.
+use Prim.Native.Nat.{◌-◌}
+use Rattle.ranks.proofs.Ranked.{length_ranked}
+use Rattle.above.proofs.Beyond.{above_told}
+use Rattle.prefix_table.proofs.Start.{start_below}
+use Rattle.prefix_table.proofs.Blocks.{above_first, above_block}
+use borrow.Author.Rules.{rules}
+use native.Mathlib.Omega.{arith}
+use Rattle.prefix_testing_leaps.proofs.test_above.Goals as goal
+
+pub bounds-s-i : goal.bounds-s-i
+bounds-s-i c =
+    omega (arith, start_below c.requires.1, length_ranked c.args.ranks.now c.args.s.now)
+
+pub above_end-end-requires : goal.above_end-end-requires
+above_end-end-requires c =
+    (c.requires.0, omega (arith, c.requires.3.scan.fits, length_ranked c.args.ranks.now c.args.s.now))
+
+pub loop-j-init : goal.loop-j-init
+loop-j-init c =
+    (search rules, c.requires.3, length_ranked c.args.ranks.now c.args.s.now, c.above_end-end.ensures, c.above_end-end.ensures.after)
+
+pub loop-j-preserved : goal.loop-j-preserved
+loop-j-preserved c =
+    let v = c.above_block in
+    let above = above_told c.loop-j.j c.loop-j.invariant.3 v.ensures c.if-not-above_block.false c.loop-j.invariant.0 (omega arith) in
+    let first = above_first c.args.ranks.now c.args.s.now (start_below c.requires.1) above in
+    let right = c.are_lengths.ensures c.if-not-are_lengths.false in (
+      search rules,
+      above_block c.requires.1 c.args.table.now c.loop-j.invariant.1 (search rules) first right 16 (search rules),
+      c.loop-j.invariant.2,
+      c.loop-j.invariant.3,
+      omega arith,
+    )

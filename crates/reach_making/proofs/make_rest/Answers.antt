@@ -1,0 +1,8 @@
+-- `reach_making::make_rest` meets its contract: the memo begins as zeros.
+use Rattle.ranks.specs.Ranks.{ranked}
+use Rattle.memo.proofs.Slots.{memo_start}
+use Rattle.reach_making.proofs.make_rest.Goals as goal
+
+pub make_by-requires : goal.make_by-requires
+make_by-requires c =
+    (c.requires.0, c.requires.1, c.requires.2, c.requires.3, memo_start (ranked c.args.ranks.now c.args.s.now))

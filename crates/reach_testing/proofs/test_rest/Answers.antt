@@ -1,0 +1,8 @@
+-- `reach_testing::test_rest` meets its contract: the memo begins as zeros.
+use Rattle.ranks.specs.Ranks.{ranked}
+use Rattle.memo.proofs.Slots.{memo_start}
+use Rattle.reach_testing.proofs.test_rest.Goals as goal
+
+pub test_by-requires : goal.test_by-requires
+test_by-requires c =
+    (c.requires.0, c.requires.1, c.requires.2, memo_start (ranked c.args.ranks.now c.args.s.now))
