@@ -17,7 +17,7 @@ use seams::plan;
 pub const MAX_MIDDLE: usize = 15 + MAX_BLOCK + 1;
 
 // What an accepted edit answers beside the two rows: kept, resume, the number of middle groups, the longest length, the number of starts.
-#[derive(Drop)]
+#[derive(Clone, Copy)]
 pub struct Counts {
     pub kept: usize,
     pub resume: usize,
@@ -26,7 +26,7 @@ pub struct Counts {
     pub starts: usize,
 }
 
-#[derive(Drop)]
+#[derive(Clone, Copy)]
 pub enum Answer {
     Done(Counts),
     Refused(u8),

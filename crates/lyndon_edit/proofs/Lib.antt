@@ -1,2 +1,1 @@
 pub mod Impostors
-pub mod Known

@@ -1,5 +1,7 @@
 // What a lent row or buffer holds after a call that wrote to it, and the laws by which a loop writes a result entry by entry or tests one.
 // Its code copies bytes into a buffer, where that there is room for them is the caller's concern, and tells the smaller of two lengths.
+#![tactic(auto)]
+
 ghost use Rattle.std.specs.Prelude.{◌⊎◌, ◌≤◌};
 ghost use Rattle.rows.specs.Written.{Room, Puts};
 

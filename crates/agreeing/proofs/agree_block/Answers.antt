@@ -1,7 +1,6 @@
 -- `agreeing::agree_block` meets its contract: where all pairs before place k are equal, the bytes agree that far.
 use mathlib.Core.Path.{◌≡◌}
 use Rattle.agreeing.proofs.Alike.{agrees_none, agrees_test}
-use Prim.Native.Nat.{◌-◌}
 use borrow.Author.Rules.{rules}
 use native.Mathlib.Omega.{arith}
 use Rattle.agreeing.proofs.agree_block.Goals as goal

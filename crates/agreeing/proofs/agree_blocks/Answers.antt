@@ -1,6 +1,5 @@
 -- `agreeing::agree_blocks` meets its contract: the bytes before place k agree.
 use Rattle.agreeing.proofs.Alike.{agrees_none, agrees_more}
-use Prim.Native.Nat.{◌-◌}
 use borrow.Author.Rules.{rules}
 use Rattle.agreeing.proofs.agree_blocks.Goals as goal
 

@@ -1,7 +1,6 @@
 -- `agreeing::agree_pairs` meets its contract: the bytes before place k agree.
 use Rattle.agreeing.proofs.Alike.{agrees_none, agrees_more}
 use Rattle.words.proofs.Bounded.{and_true}
-use Prim.Native.Nat.{◌-◌}
 use borrow.Author.Rules.{rules}
 use Rattle.agreeing.proofs.agree_pairs.Goals as goal
 

@@ -1,7 +1,7 @@
 -- `byte_leaps::pair_block` meets its contract: where all bytes before place j + u passed, they are above c, or c with one above d behind.
 use mathlib.Core.Path.{◌≡◌}
 use Rattle.rising.proofs.Rising.{risen_none, risen_test}
-use Prim.Native.Nat.{◌+◌, ◌-◌}
+use Prim.Native.Nat.{◌+◌}
 use lib.Dec.{ltb}
 use lib.ListN.{get_or}
 use borrow.Author.Tests.{ltb-true}

@@ -1,7 +1,7 @@
 -- `byte_leaps::run_block` meets its contract: where all bytes before place j + u passed, they are above c, or c with one that is not c among the seven behind.
 use mathlib.Core.Path.{◌≡◌}
 use Rattle.rising.proofs.Rising.{risen_none, risen_test}
-use Prim.Native.Nat.{◌+◌, ◌-◌}
+use Prim.Native.Nat.{◌+◌}
 use borrow.Author.Rules.{rules}
 use native.Mathlib.Omega.{arith}
 use Rattle.byte_leaps.proofs.run_block.Goals as goal

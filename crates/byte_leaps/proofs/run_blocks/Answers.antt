@@ -1,6 +1,5 @@
 -- `byte_leaps::run_blocks` meets its contract: the bytes before place k are above c, or c with one that is not c among the seven behind.
 use Rattle.rising.proofs.Rising.{risen_none, risen_more}
-use Prim.Native.Nat.{◌-◌}
 use borrow.Author.Rules.{rules}
 use Rattle.byte_leaps.proofs.run_blocks.Goals as goal
 

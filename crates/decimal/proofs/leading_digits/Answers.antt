@@ -1,5 +1,4 @@
 -- `decimal::leading_digits` meets its contract: the bytes before place `count` are digits.
-use Prim.Native.Nat.{◌-◌}
 use borrow.Author.Count.{below_more}
 use Rattle.decimal.proofs.Digits.{leading_end}
 use borrow.Author.Rules.{rules}

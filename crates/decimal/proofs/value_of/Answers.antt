@@ -1,6 +1,5 @@
 -- `decimal::value_of` meets its contract: the digits before place k are read.
 use mathlib.Core.Path.{refl}
-use Prim.Native.Nat.{◌-◌}
 use Rattle.decimal.proofs.Digits.{reading_small, reading_turn, reading_end}
 use borrow.Author.Rules.{rules}
 use native.Mathlib.Omega.{arith}

@@ -1,6 +1,5 @@
 -- `rising::breaks` meets its contract: it is known of the bytes before t + u whether one is not c.
 use mathlib.Core.Path.{◌≡◌, refl}
-use Prim.Native.Nat.{◌-◌}
 use borrow.Author.Rules.{rules}
 use native.Mathlib.Omega.{arith}
 use Rattle.words.proofs.Bounded.{true_false}

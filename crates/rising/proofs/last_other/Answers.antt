@@ -1,6 +1,5 @@
 -- `rising::last_other` meets its contract: e comes down until the byte before it is above c, or e is j.
 use mathlib.Core.Logic.{inl, inr}
-use Prim.Native.Nat.{◌-◌}
 use borrow.Author.Rules.{rules}
 use native.Mathlib.Omega.{arith}
 use Rattle.rising.proofs.last_other.Goals as goal

@@ -1,5 +1,5 @@
 -- `rising::last_other` meets its contract: e comes down until the byte before it is above c, or e is j.
-use Prim.Native.Nat.{◌-◌, ◌≤◌}
+use Prim.Native.Nat.{◌≤◌}
 use Rattle.rising.proofs.last_other.Given as goal
 
 abbrev pub invariant-loop-e : goal.invariant-loop-e

@@ -1,5 +1,4 @@
 -- `rows::write_bytes` meets its contract: the first k bytes stand in the buffer, and the others are left.
-use Prim.Native.Nat.{◌-◌}
 use Rattle.rows.proofs.Wrote.{wrote_length}
 use Rattle.rows.proofs.Puts.{putting_none, putting_all, byte_room, byte_turn, bytes_end}
 use borrow.Author.Rules.{rules}
