@@ -1,4 +1,4 @@
-/* The pattern engine for C (x86-64 Linux). Two archives have its functions; `rt staticlib NAME` writes libNAME.a to target/staticlib/:
+/* The pattern engine for C (x86-64 Linux). Two archives have its functions; `rt lib` in crates/NAME writes libNAME.a to out/ there:
  *   - liblyndon_edit_c.a has lyndon_edit and lyndon_edit_interface;
  *   - liblyndon_c.a has all others. Neither needs the other, and a program may link both.
  *

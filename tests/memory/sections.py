@@ -11,6 +11,8 @@ ALLOCATED, WRITTEN, EXECUTED = 2, 1, 4
 MOST = {"listing.o": 48, "edited.o": 144, "liblyndon_c.a": 144, "liblyndon_edit_c.a": 64}
 # what a table of byte order would have; the first sixteen also stand for places within a block
 ORDER = [bytes(range(16 * k, 16 * k + 16)) for k in range(1, 16)]
+# what a program's start-up code, which is the toolchain's, says on a processor that is too old
+START_UP = b"this machine lacks a feature of x86-64-v2, which this program was built for: run it on another machine, or build it with --cpu x"
 
 
 def members(path):
@@ -39,12 +41,19 @@ def constants(elf):
             yield elf[at : at + length]
 
 
+def own(part):
+    """Without what the start-up code says, which is kept sixteen bytes at a time."""
+    for k in range(0, len(START_UP), 16):
+        part = part.replace(START_UP[k : k + 16], b"", 1)
+    return part
+
+
 def main():
     passed = failed = 0
     for path in sys.argv[1:]:
         name = os.path.basename(path)
         parts = [part for elf in members(path) for part in constants(elf)]
-        total = sum(map(len, parts))
+        total = sum(len(own(part)) for part in parts)
         print(f"{name}: {total} bytes of read-only data, at most {MOST[name]}")
         listed = sum(row in part for row in ORDER for part in parts)
         for good, said in ((total <= MOST[name], "has more"), (listed == 0, f"has {listed} sixteenths of byte order")):

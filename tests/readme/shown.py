@@ -15,7 +15,7 @@ ROOT = os.path.abspath(os.path.join(os.path.dirname(__file__), "..", ".."))
 NOT_RUN = (".ci/run", "bench/run")
 
 # what a code span begins with where it is a command
-COMMANDS = re.compile(r"(rt |bin/|tests/[a-z]+/run|\.ci/|bench/run|printf |gcc |rustc |\$ )")
+COMMANDS = re.compile(r"(rt |cd |bin/|tests/[a-z]+/run|\.ci/|bench/run|printf |gcc |rustc |\$ )")
 
 
 class Tally:
@@ -82,9 +82,9 @@ def spans(lines):
     return re.findall(r"`([^`]+)`", "\n".join(lines))
 
 
-def writes(command, name, afresh):
+def writes(command, archive, afresh):
     """Whether the command leaves the archive, which is removed before it where it is to be written afresh."""
-    path = os.path.join(ROOT, "target", "staticlib", "lib%s.a" % name)
+    path = os.path.join(ROOT, archive)
     if afresh and os.path.exists(path):
         os.remove(path)
     done = subprocess.run(command, cwd=ROOT, stdout=subprocess.DEVNULL, stderr=subprocess.DEVNULL)
@@ -94,14 +94,15 @@ def writes(command, name, afresh):
 def inline_commands(t, prose, code):
     """Commands in the prose: building an archive is run; another must be one that a block runs, or is not to be run."""
     for span in sorted(set(filter(COMMANDS.match, spans(prose)))):
-        built = re.fullmatch(r"rt staticlib (\w+)", span)
+        built = re.fullmatch(r"cd crates/(\w+) && rt lib", span)
         if built:
-            t.check(writes(span.split(), built[1], True), "writes lib%s.a: %s" % (built[1], span))
+            archive = "crates/%s/out/lib%s.a" % (built[1], built[1])
+            t.check(writes(["bash", "-c", span], archive, True), "writes %s: %s" % (archive, span))
         else:
             run_by_block = any(re.search(r"(?<![\w./-])" + re.escape(span) + r"(?![\w/])", line) for line in code)
             t.check(run_by_block or is_not_run(span), "run: " + span, "this script does not run it")
     for name in sorted({name for span in spans(prose) for name in re.findall(r"^lib(\w+)\.a$", span)}):
-        t.check(writes(["tests/archive", name], name, False), "can be built: lib%s.a" % name)
+        t.check(writes(["tests/archive", name], "target/staticlib/lib%s.a" % name, False), "can be built: lib%s.a" % name)
 
 
 def links(t, prose):
