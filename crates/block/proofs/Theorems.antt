@@ -7,7 +7,7 @@ use mathlib.Core.Path.{◌≡◌, refl, sym, ap, ◌∙◌}
 use Prim.Native.Nat.{ℕ, ◌+◌, ◌≤◌, ◌<◌}
 use native.Mathlib.Omega.{arith}
 use lib.ListN.{length, replicate, length-append}
-use Rattle.decimal.specs.Decimal.{codes, decimal, read}
+use Rattle.decimal.specs.Decimal.{codes, decimal}
 use Rattle.decimal.proofs.Decimal.{length_decimal, count_least, decimal_text, read_nine}
 use Rattle.decimal.proofs.Zeros.{digits_padded}
 use Rattle.refusals.specs.Refusals.{first_of, max_pattern}

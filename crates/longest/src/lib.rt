@@ -9,7 +9,7 @@ ghost use Rattle.longest.specs.Best.{better_of, run_of, Measures};
 use scan::next_group;
 
 // The first of the longest Lyndon substrings, and how many there are.
-#[derive(Drop)]
+#[derive(Clone, Copy)]
 pub struct Longest {
     pub start: usize,
     pub length: usize,

@@ -11,28 +11,36 @@ mod parts;
 mod patterns;
 mod tables;
 
-fn run(name: &[u8], order: &[u8]) {
-    show::heading(name);
-    patterns::run(order);
-    parts::run(order);
-    comparisons::run(order);
-    edits::run(order);
-    tables::run(order);
+use std::io;
+
+fn run(rt: &impl Print, name: &[u8], order: &[u8]) -> io::Result<()> {
+    show::heading(rt, name)?;
+    patterns::run(rt, order)?;
+    parts::run(rt, order)?;
+    comparisons::run(rt, order)?;
+    edits::run(rt, order)?;
+    tables::run(rt, order)
 }
 
-fn main() {
+fn main(rt: HostRuntime) -> io::Result<()> {
     let mut order = [0; 256];
     orders::stepping(&mut order, 255, 255);
-    run(b"the reverse order: the rank of byte b is 255 - b", &order);
+    run(
+        &rt,
+        b"the reverse order: the rank of byte b is 255 - b",
+        &order,
+    )?;
     orders::moved(&mut order);
     run(
+        &rt,
         b"byte order, but b before c before a, and 80 before 7F",
         &order,
-    );
+    )?;
     orders::stepping(&mut order, 13, 167);
     run(
+        &rt,
         b"all mixed: the rank of byte b is 13 + 167 b, modulo 256",
         &order,
-    );
-    no_order::run();
+    )?;
+    no_order::run(&rt)
 }

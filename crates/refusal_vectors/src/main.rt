@@ -13,16 +13,17 @@ mod wanted;
 mod wrong_tables;
 
 use order_bytes::fill_byte_order;
+use std::io;
 
-fn main() {
+fn main(rt: HostRuntime) -> io::Result<()> {
     let mut order = [0; 256];
     fill_byte_order(&mut order);
-    short_rows::run(&order);
-    empty::run(&order);
-    positions::run(&order);
-    wrong_tables::run(&order);
-    repeated::run(&order);
-    several::run(&order);
-    limits::run(&order);
-    wanted::run(&order);
+    short_rows::run(&rt, &order)?;
+    empty::run(&rt, &order)?;
+    positions::run(&rt, &order)?;
+    wrong_tables::run(&rt, &order)?;
+    repeated::run(&rt, &order)?;
+    several::run(&rt, &order)?;
+    limits::run(&rt, &order)?;
+    wanted::run(&rt, &order)
 }

@@ -3,22 +3,24 @@ use crate::calls::{OLD, least};
 use edit::{Answer, MAX_MIDDLE};
 use edit_core::core;
 use refusals::MAX_PATTERN;
+use std::io;
 
-fn answer(a: Answer) {
-    crate::text(b":");
+fn answer(rt: &impl Print, a: Answer) -> io::Result<()> {
+    crate::text(rt, b":")?;
     match a {
         Answer::Done(c) => {
-            crate::number(b"kept", c.kept as u64);
-            crate::number(b"resume", c.resume as u64);
-            crate::number(b"groups", c.groups as u64);
-            crate::number(b"length", c.length as u64);
-            crate::number(b"starts", c.starts as u64);
+            crate::number(rt, b"kept", c.kept as u64)?;
+            crate::number(rt, b"resume", c.resume as u64)?;
+            crate::number(rt, b"groups", c.groups as u64)?;
+            crate::number(rt, b"length", c.length as u64)?;
+            crate::number(rt, b"starts", c.starts as u64)
         }
-        Answer::Refused(number) => crate::number(b"refusal", number as u64),
+        Answer::Refused(number) => crate::number(rt, b"refusal", number as u64),
     }
 }
 
 pub fn edit_with(
+    rt: &impl Print,
     pattern: &[u8],
     order: &[u8],
     array: &[u16],
@@ -28,14 +30,14 @@ pub fn edit_with(
     block: &[u8],
     groups: usize,
     places: usize,
-) {
-    crate::text(b"edit");
-    crate::word(pattern);
-    crate::order(order);
-    crate::number(b"from", from as u64);
-    crate::number(b"to", to as u64);
-    crate::text(b" block");
-    crate::word(block);
+) -> io::Result<()> {
+    crate::text(rt, b"edit")?;
+    crate::word(rt, pattern)?;
+    crate::order(rt, order)?;
+    crate::number(rt, b"from", from as u64)?;
+    crate::number(rt, b"to", to as u64)?;
+    crate::text(rt, b" block")?;
+    crate::word(rt, block)?;
     let mut space = [OLD; 3 * MAX_MIDDLE];
     let room = least(groups, MAX_MIDDLE);
     let n = 3 * room;
@@ -46,14 +48,15 @@ pub fn edit_with(
     let a = core(
         pattern, order, array, last, from, to, block, room, middle, starts,
     );
-    answer(a);
-    crate::row(b"middle", middle);
-    crate::row(b"places", starts);
-    crate::text(b"\n");
+    answer(rt, a)?;
+    crate::row(rt, b"middle", middle)?;
+    crate::row(rt, b"places", starts)?;
+    crate::text(rt, b"\n")
 }
 
 // With the pattern's own tables.
 pub fn edit(
+    rt: &impl Print,
     pattern: &[u8],
     order: &[u8],
     from: usize,
@@ -61,12 +64,12 @@ pub fn edit(
     block: &[u8],
     groups: usize,
     places: usize,
-) {
+) -> io::Result<()> {
     let mut array = [0; MAX_PATTERN];
     let mut last = [0; MAX_PATTERN];
     lyndon_tables::lyndon_array(pattern, order, &mut array);
     lyndon_tables::last_factors(pattern, order, &mut last);
     edit_with(
-        pattern, order, &array, &last, from, to, block, groups, places,
-    );
+        rt, pattern, order, &array, &last, from, to, block, groups, places,
+    )
 }

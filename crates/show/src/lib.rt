@@ -1,6 +1,6 @@
-// Prints to standard output: headings, words, rows, and the answers of the calls, each number after its name. What prints returns nothing, so
-// there is nothing for an `ensures` to speak of. The calls themselves are made in `calls.rt` and `edits.rt`; which cases are run is left to the
-// programs.
+// Prints to standard output: headings, words, rows, and the answers of the calls, each number after its name. What prints answers with the error
+// of the output alone, so there is nothing for an `ensures` to speak of. The calls themselves are made in `calls.rt` and `edits.rt`; which cases are
+// run is left to the programs.
 #![tactic(auto)]
 
 pub mod calls;
@@ -10,7 +10,6 @@ ghost use Rattle.std.specs.Prelude.{◌≡◌, ◌<◌};
 ghost use Rattle.show.specs.Digest.{digest_from};
 
 use block::Extent;
-use libc::STDOUT_FILENO;
 use lyndon_compare::Comparison;
 use lyndon_rotation::Position;
 use lyndon_test::Verdict;
@@ -18,56 +17,56 @@ use lyndon_trigger::WordPlace;
 use lyndon_words::Starts;
 use order_test::test_order;
 use refusals::Filled;
+use std::io;
 
 // A word or a row of up to so many elements is printed whole.
 const WHOLE: usize = 70;
 
-pub fn text(s: &[u8]) {
-    io::write_all(STDOUT_FILENO, s);
+pub fn text(rt: &impl Print, s: &[u8]) -> io::Result<()> {
+    rt.write_all(s)
 }
 
-pub fn heading(s: &[u8]) {
-    text(b"# ");
-    text(s);
-    text(b"\n");
+pub fn heading(rt: &impl Print, s: &[u8]) -> io::Result<()> {
+    text(rt, b"# ")?;
+    text(rt, s)?;
+    text(rt, b"\n")
 }
 
 // As in ` count 3`.
-pub fn number(name: &[u8], n: u64) {
-    text(b" ");
-    text(name);
-    text(b" ");
-    io::print_decimal(STDOUT_FILENO, n);
+pub fn number(rt: &impl Print, name: &[u8], n: u64) -> io::Result<()> {
+    text(rt, b" ")?;
+    text(rt, name)?;
+    print!(rt; " {n}")
 }
 
 // A byte as its letter, or as a backslash and two hexadecimal digits where it has none.
-fn byte(b: u8) {
+fn byte(rt: &impl Print, b: u8) -> io::Result<()> {
     if 32 < b && b < 127 {
-        text(&[b]);
+        text(rt, &[b])
     } else {
-        text(b"\\");
-        io::print_hex(STDOUT_FILENO, b as u64, 2);
+        print!(rt; "\\{b:02x}")
     }
 }
 
-fn bytes(s: &[u8]) {
+fn bytes(rt: &impl Print, s: &[u8]) -> io::Result<()> {
     let mut i = 0;
     while i < s.len() {
-        byte(s[i]);
+        byte(rt, s[i])?;
         i += 1;
     }
+    Ok(())
 }
 
 // A word: `empty`, its bytes, or how many there are.
-pub fn word(s: &[u8]) {
-    text(b" ");
+pub fn word(rt: &impl Print, s: &[u8]) -> io::Result<()> {
+    text(rt, b" ")?;
     if s.len() == 0 {
-        text(b"empty");
+        text(rt, b"empty")
     } else if s.len() <= WHOLE {
-        bytes(s);
+        bytes(rt, s)
     } else {
-        io::print_decimal(STDOUT_FILENO, s.len() as u64);
-        text(b" bytes");
+        let n = s.len();
+        print!(rt; "{n} bytes")
     }
 }
 
@@ -77,13 +76,14 @@ fn wide(x: u16) -> u64
     x as u64
 }
 
-fn entries(r: &[u16]) {
+fn entries(rt: &impl Print, r: &[u16]) -> io::Result<()> {
     let mut i = 0;
     while i < r.len() {
-        text(b" ");
-        io::print_decimal(STDOUT_FILENO, wide(r[i]));
+        let x = wide(r[i]);
+        print!(rt; " {x}")?;
         i += 1;
     }
+    Ok(())
 }
 
 // One number for all of a row and its order: from 0 on, each entry is added to 31 times the number so far, modulo 65,521.
@@ -113,114 +113,116 @@ fn digest_bytes(s: &[u8]) -> u64
 }
 
 // A word, with the digest of one that is not printed whole.
-pub fn content(s: &[u8]) {
-    word(s);
+pub fn content(rt: &impl Print, s: &[u8]) -> io::Result<()> {
+    word(rt, s)?;
     if WHOLE < s.len() {
-        number(b"digest", digest_bytes(s));
+        number(rt, b"digest", digest_bytes(s))?;
     }
+    Ok(())
 }
 
 // The order of a call. Byte order goes without saying: `test_order` answers that none of its ranks are used.
-pub fn order(ranks: &[u8]) {
+pub fn order(rt: &impl Print, ranks: &[u8]) -> io::Result<()> {
     let t = test_order(ranks);
     if !t.order || t.used != 0 {
-        text(b" order");
-        content(ranks);
+        text(rt, b" order")?;
+        content(rt, ranks)?;
     }
+    Ok(())
 }
 
 // A row after its name: `empty`, its entries, or how many there are and their digest.
-pub fn row(name: &[u8], r: &[u16]) {
-    text(b" ");
-    text(name);
+pub fn row(rt: &impl Print, name: &[u8], r: &[u16]) -> io::Result<()> {
+    text(rt, b" ")?;
+    text(rt, name)?;
     if r.len() == 0 {
-        text(b" empty");
+        text(rt, b" empty")
     } else if r.len() <= WHOLE {
-        entries(r);
+        entries(rt, r)
     } else {
-        number(b"of", r.len() as u64);
-        number(b"digest", digest(r));
+        number(rt, b"of", r.len() as u64)?;
+        number(rt, b"digest", digest(r))
     }
 }
 
 // What every answer begins with.
-fn refusal(n: u8) {
-    text(b":");
-    number(b"refusal", n as u64);
+fn refusal(rt: &impl Print, n: u8) -> io::Result<()> {
+    text(rt, b":")?;
+    number(rt, b"refusal", n as u64)
 }
 
 // The answer of a call that fills a row, and the row as the call leaves it.
-pub fn filled(a: Filled, r: &[u16]) {
-    refusal(a.refusal);
-    number(b"count", a.count as u64);
-    row(b"row", r);
-    text(b"\n");
+pub fn filled(rt: &impl Print, a: Filled, r: &[u16]) -> io::Result<()> {
+    refusal(rt, a.refusal)?;
+    number(rt, b"count", a.count as u64)?;
+    row(rt, b"row", r)?;
+    text(rt, b"\n")
 }
 
 // The answer of a call that fills a buffer, and the buffer as the call leaves it.
-pub fn buffer(a: Filled, s: &[u8]) {
-    refusal(a.refusal);
-    number(b"count", a.count as u64);
-    text(b" buffer");
-    content(s);
-    text(b"\n");
+pub fn buffer(rt: &impl Print, a: Filled, s: &[u8]) -> io::Result<()> {
+    refusal(rt, a.refusal)?;
+    number(rt, b"count", a.count as u64)?;
+    text(rt, b" buffer")?;
+    content(rt, s)?;
+    text(rt, b"\n")
 }
 
 // The answer of the call for a wanted table: the Lyndon array of the pattern in the buffer, and the buffer behind it.
-pub fn realised(a: Filled, array: &[u16], behind: &[u8]) {
-    refusal(a.refusal);
-    number(b"count", a.count as u64);
-    row(b"array", array);
-    text(b" behind");
-    content(behind);
-    text(b"\n");
+pub fn realised(rt: &impl Print, a: Filled, array: &[u16], behind: &[u8]) -> io::Result<()> {
+    refusal(rt, a.refusal)?;
+    number(rt, b"count", a.count as u64)?;
+    row(rt, b"array", array)?;
+    text(rt, b" behind")?;
+    content(rt, behind)?;
+    text(rt, b"\n")
 }
 
-pub fn extent(a: Extent) {
-    refusal(a.refusal);
-    number(b"place", a.place as u64);
-    number(b"count", a.count as u64);
-    text(b"\n");
+pub fn extent(rt: &impl Print, a: Extent) -> io::Result<()> {
+    refusal(rt, a.refusal)?;
+    number(rt, b"place", a.place as u64)?;
+    number(rt, b"count", a.count as u64)?;
+    text(rt, b"\n")
 }
 
-pub fn starts(a: Starts, r: &[u16]) {
-    refusal(a.refusal);
-    number(b"length", a.length as u64);
-    number(b"count", a.count as u64);
-    row(b"row", r);
-    text(b"\n");
+pub fn starts(rt: &impl Print, a: Starts, r: &[u16]) -> io::Result<()> {
+    refusal(rt, a.refusal)?;
+    number(rt, b"length", a.length as u64)?;
+    number(rt, b"count", a.count as u64)?;
+    row(rt, b"row", r)?;
+    text(rt, b"\n")
 }
 
-pub fn place(a: WordPlace) {
-    text(b":");
-    number(b"start", a.start as u64);
-    number(b"length", a.length as u64);
-    text(b"\n");
+pub fn place(rt: &impl Print, a: WordPlace) -> io::Result<()> {
+    text(rt, b":")?;
+    number(rt, b"start", a.start as u64)?;
+    number(rt, b"length", a.length as u64)?;
+    text(rt, b"\n")
 }
 
-pub fn verdict(a: Verdict) {
-    refusal(a.refusal);
+pub fn verdict(rt: &impl Print, a: Verdict) -> io::Result<()> {
+    refusal(rt, a.refusal)?;
     if a.yes {
-        text(b" yes\n");
+        text(rt, b" yes\n")
     } else {
-        text(b" no\n");
+        text(rt, b" no\n")
     }
 }
 
-pub fn compared(a: Comparison) {
-    text(b":");
+pub fn compared(rt: &impl Print, a: Comparison) -> io::Result<()> {
+    text(rt, b":")?;
     match a {
         Comparison::Done(c) => {
-            number(b"shared", c.shared as u64);
-            number(b"smaller", c.smaller as u64);
+            number(rt, b"shared", c.shared as u64)?;
+            number(rt, b"smaller", c.smaller as u64)?;
         }
-        Comparison::Refused(n) => number(b"refusal", n as u64),
+        Comparison::Refused(n) => number(rt, b"refusal", n as u64)?,
     }
-    text(b"\n");
+    text(rt, b"\n")
 }
 
-pub fn position(a: Position) {
-    refusal(a.refusal);
-    number(b"start", a.start as u64);
-    text(b"\n");
+pub fn position(rt: &impl Print, a: Position) -> io::Result<()> {
+    refusal(rt, a.refusal)?;
+    number(rt, b"start", a.start as u64)?;
+    text(rt, b"\n")
 }

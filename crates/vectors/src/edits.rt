@@ -4,83 +4,103 @@ ghost use Rattle.std.specs.Prelude.{◌≤◌, length};
 
 use show::calls;
 use show::edits::{edit, edit_with};
+use std::io;
 
 // The tables of acbabcabcabac.
 const REACH: [u16; 13] = [3, 1, 1, 3, 2, 1, 3, 2, 1, 4, 1, 2, 1];
 
 const LAST: [u16; 13] = [1, 2, 3, 1, 2, 3, 1, 2, 3, 1, 2, 1, 4];
 
-fn sheet(order: &[u8]) {
-    show::heading(b"P5 to P9, P12 and P13");
-    edit(b"acbabcabcabac", order, 5, 6, b"b", 1, 1);
-    edit(b"acbabcabcabac", order, 11, 11, b"a", 2, 4);
-    edit(b"acbabcabcabac", order, 9, 10, b"", 1, 1);
-    edit(b"acbabcabcabac", order, 1, 3, b"bac", 1, 1);
-    edit(b"acbabcabcabac", order, 7, 10, b"", 2, 2);
-    edit(b"aa", order, 1, 1, b"a", 1, 3);
-    edit(b"aba", order, 3, 3, b"c", 1, 1);
+fn sheet(rt: &impl Print, order: &[u8]) -> io::Result<()> {
+    show::heading(rt, b"P5 to P9, P12 and P13")?;
+    edit(rt, b"acbabcabcabac", order, 5, 6, b"b", 1, 1)?;
+    edit(rt, b"acbabcabcabac", order, 11, 11, b"a", 2, 4)?;
+    edit(rt, b"acbabcabcabac", order, 9, 10, b"", 1, 1)?;
+    edit(rt, b"acbabcabcabac", order, 1, 3, b"bac", 1, 1)?;
+    edit(rt, b"acbabcabcabac", order, 7, 10, b"", 2, 2)?;
+    edit(rt, b"aa", order, 1, 1, b"a", 1, 3)?;
+    edit(rt, b"aba", order, 3, 3, b"c", 1, 1)
 }
 
-fn ends(order: &[u8]) {
-    show::heading(b"both ends, an empty pattern, an empty block, the whole pattern replaced");
-    edit(b"acbabcabcabac", order, 0, 0, b"a", 2, 2);
-    edit(b"acbabcabcabac", order, 13, 13, b"b", 2, 2);
-    edit(b"", order, 0, 0, b"ab", 1, 1);
-    edit(b"", order, 0, 0, b"", 0, 0);
-    edit(b"abc", order, 1, 1, b"", 1, 1);
-    edit(b"abc", order, 0, 3, b"ba", 2, 2);
-    edit(b"abc", order, 0, 3, b"", 0, 0);
+fn ends(rt: &impl Print, order: &[u8]) -> io::Result<()> {
+    show::heading(
+        rt,
+        b"both ends, an empty pattern, an empty block, the whole pattern replaced",
+    )?;
+    edit(rt, b"acbabcabcabac", order, 0, 0, b"a", 2, 2)?;
+    edit(rt, b"acbabcabcabac", order, 13, 13, b"b", 2, 2)?;
+    edit(rt, b"", order, 0, 0, b"ab", 1, 1)?;
+    edit(rt, b"", order, 0, 0, b"", 0, 0)?;
+    edit(rt, b"abc", order, 1, 1, b"", 1, 1)?;
+    edit(rt, b"abc", order, 0, 3, b"ba", 2, 2)?;
+    edit(rt, b"abc", order, 0, 3, b"", 0, 0)
 }
 
-fn places(order: &[u8]) {
-    show::heading(b"refusals, with later ones true");
-    edit(&[b'a'; 16385], order, 2, 1, &[b'b'; 257], 0, 0);
-    edit(b"abc", order, 2, 1, &[b'b'; 257], 0, 0);
-    edit(b"abc", order, usize::MAX, usize::MAX, b"", 0, 0);
-    edit(b"abc", order, 0, usize::MAX, b"", 0, 0);
-    edit(b"abc", order, 0, 4, b"", 0, 0);
+fn places(rt: &impl Print, order: &[u8]) -> io::Result<()> {
+    show::heading(rt, b"refusals, with later ones true")?;
+    edit(rt, &[b'a'; 16385], order, 2, 1, &[b'b'; 257], 0, 0)?;
+    edit(rt, b"abc", order, 2, 1, &[b'b'; 257], 0, 0)?;
+    edit(rt, b"abc", order, usize::MAX, usize::MAX, b"", 0, 0)?;
+    edit(rt, b"abc", order, 0, usize::MAX, b"", 0, 0)?;
+    edit(rt, b"abc", order, 0, 4, b"", 0, 0)
 }
 
-fn sizes(order: &[u8]) {
-    edit(&[b'a'; 16288], order, 0, 0, &[b'b'; 257], 0, 0);
-    edit_with(&[b'a'; 16288], order, &[], &[], 0, 0, &[b'b'; 97], 0, 0);
-    edit_with(b"abc", order, &[], &[], 0, 0, b"b", 0, 0);
-    edit(b"acbabcabcabac", order, 11, 11, b"a", 1, 4);
-    edit(b"acbabcabcabac", order, 11, 11, b"a", 2, 3);
+fn sizes(rt: &impl Print, order: &[u8]) -> io::Result<()> {
+    edit(rt, &[b'a'; 16288], order, 0, 0, &[b'b'; 257], 0, 0)?;
+    edit_with(rt, &[b'a'; 16288], order, &[], &[], 0, 0, &[b'b'; 97], 0, 0)?;
+    edit_with(rt, b"abc", order, &[], &[], 0, 0, b"b", 0, 0)?;
+    edit(rt, b"acbabcabcabac", order, 11, 11, b"a", 1, 4)?;
+    edit(rt, b"acbabcabcabac", order, 11, 11, b"a", 2, 3)
 }
 
-fn longest(order: &[u8]) {
-    show::heading(b"an edited length of 16384, a block of 256");
-    edit(&[b'a'; 16128], order, 16128, 16128, &[b'b'; 256], 1, 1);
-    edit(&[b'a'; 16129], order, 16129, 16129, &[b'b'; 256], 1, 1);
+fn longest(rt: &impl Print, order: &[u8]) -> io::Result<()> {
+    show::heading(rt, b"an edited length of 16384, a block of 256")?;
+    edit(rt, &[b'a'; 16128], order, 16128, 16128, &[b'b'; 256], 1, 1)?;
+    edit(rt, &[b'a'; 16129], order, 16129, 16129, &[b'b'; 256], 1, 1)
 }
 
 // One entry of a table is one too large.
-fn wrong_array(order: &[u8], at: usize, value: u16) {
+fn wrong_array(rt: &impl Print, order: &[u8], at: usize, value: u16) -> io::Result<()> {
     let mut table = REACH;
     if at < 13 {
         table[at] = value;
-        edit_with(b"acbabcabcabac", order, &table, &LAST, 5, 6, b"b", 0, 0);
+        edit_with(rt, b"acbabcabcabac", order, &table, &LAST, 5, 6, b"b", 0, 0)?;
     }
+    Ok(())
 }
 
-fn wrong_last(order: &[u8], at: usize, value: u16) {
+fn wrong_last(rt: &impl Print, order: &[u8], at: usize, value: u16) -> io::Result<()> {
     let mut table = LAST;
     if at < 13 {
         table[at] = value;
-        edit_with(b"acbabcabcabac", order, &REACH, &table, 5, 6, b"b", 0, 0);
+        edit_with(
+            rt,
+            b"acbabcabcabac",
+            order,
+            &REACH,
+            &table,
+            5,
+            6,
+            b"b",
+            0,
+            0,
+        )?;
     }
+    Ok(())
 }
 
-fn tables(order: &[u8]) {
-    show::heading(b"tables with a wrong entry: the first, a middle one, the last; right ones");
-    wrong_array(order, 0, 4);
-    wrong_last(order, 0, 2);
-    wrong_array(order, 6, 4);
-    wrong_last(order, 6, 2);
-    wrong_array(order, 12, 2);
-    wrong_last(order, 12, 5);
-    edit_with(b"acbabcabcabac", order, &REACH, &LAST, 5, 6, b"b", 1, 1);
+fn tables(rt: &impl Print, order: &[u8]) -> io::Result<()> {
+    show::heading(
+        rt,
+        b"tables with a wrong entry: the first, a middle one, the last; right ones",
+    )?;
+    wrong_array(rt, order, 0, 4)?;
+    wrong_last(rt, order, 0, 2)?;
+    wrong_array(rt, order, 6, 4)?;
+    wrong_last(rt, order, 6, 2)?;
+    wrong_array(rt, order, 12, 2)?;
+    wrong_last(rt, order, 12, 5)?;
+    edit_with(rt, b"acbabcabcabac", order, &REACH, &LAST, 5, 6, b"b", 1, 1)
 }
 
 // n n-1 .. 1, the Lyndon array of a .. a b.
@@ -94,26 +114,26 @@ fn falling(table: &mut [u16])
 }
 
 // Tables that were stored when 4,096 bytes were the limit, here of a .. a b, the longest there was: 4096 4095 .. 1, and 1 1 .. 1 4096.
-fn stored(order: &[u8]) {
-    show::heading(b"stored tables of 4096 bytes: a .. a b");
+fn stored(rt: &impl Print, order: &[u8]) -> io::Result<()> {
+    show::heading(rt, b"stored tables of 4096 bytes: a .. a b")?;
     let mut pattern = [b'a'; 4096];
     pattern[4095] = b'b';
     let mut array = [0; 4096];
     falling(&mut array);
     let mut last = [1; 4096];
     last[4095] = 4096;
-    edit_with(&pattern, order, &array, &last, 2048, 2049, b"b", 1, 1);
-    calls::factor_prefix(&pattern, order, &last, 4096, 3);
-    calls::factor_suffix(&pattern, order, &array, 4000, 3);
+    edit_with(rt, &pattern, order, &array, &last, 2048, 2049, b"b", 1, 1)?;
+    calls::factor_prefix(rt, &pattern, order, &last, 4096, 3)?;
+    calls::factor_suffix(rt, &pattern, order, &array, 4000, 3)
 }
 
-pub(crate) fn run(order: &[u8]) {
-    sheet(order);
-    ends(order);
+pub(crate) fn run(rt: &impl Print, order: &[u8]) -> io::Result<()> {
+    sheet(rt, order)?;
+    ends(rt, order)?;
     // a function with many arrays of its own takes long to check, so the refusals have three
-    places(order);
-    sizes(order);
-    longest(order);
-    tables(order);
-    stored(order);
+    places(rt, order)?;
+    sizes(rt, order)?;
+    longest(rt, order)?;
+    tables(rt, order)?;
+    stored(rt, order)
 }

@@ -13,14 +13,15 @@ mod sources;
 mod wanted;
 
 use order_bytes::fill_byte_order;
+use std::io;
 
-fn main() {
+fn main(rt: HostRuntime) -> io::Result<()> {
     let mut order = [0; 256];
     fill_byte_order(&mut order);
-    sheet::run(&order);
-    sources::run(&order);
-    wanted::run(&order);
-    comparisons::run(&order);
-    edits::run(&order);
-    blocks::run();
+    sheet::run(&rt, &order)?;
+    sources::run(&rt, &order)?;
+    wanted::run(&rt, &order)?;
+    comparisons::run(&rt, &order)?;
+    edits::run(&rt, &order)?;
+    blocks::run(&rt)
 }

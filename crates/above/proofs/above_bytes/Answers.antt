@@ -1,7 +1,7 @@
 -- `above::above_bytes` meets its contract: where all bytes before place u passed, they are above c.
 use mathlib.Core.Path.{◌≡◌}
 use Rattle.above.proofs.Beyond.{above_none, above_test}
-use Prim.Native.Nat.{◌+◌, ◌-◌}
+use Prim.Native.Nat.{◌+◌}
 use borrow.Author.Rules.{rules}
 use native.Mathlib.Omega.{arith}
 use Rattle.above.proofs.above_bytes.Goals as goal

@@ -1,6 +1,6 @@
 -- `above::above_ranks` meets its contract: where the ranks of all bytes before place u passed, they are above d.
 use mathlib.Core.Path.{◌≡◌, refl}
-use Prim.Native.Nat.{◌+◌, ◌-◌}
+use Prim.Native.Nat.{◌+◌}
 use Rattle.ranks.proofs.Ranked.{entry_ranked}
 use Rattle.above.proofs.Beyond.{above_none, above_test}
 use native.Mathlib.Omega.{arith}

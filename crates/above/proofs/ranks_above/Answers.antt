@@ -1,6 +1,5 @@
 -- `above::ranks_above` meets its contract: the ranks before k are above that of c, which is d.
 use mathlib.Core.Path.{sym, ap, ◌∙◌}
-use Prim.Native.Nat.{◌-◌}
 use lib.ListN.{get_or}
 use native.Mathlib.Omega.{arith}
 use Rattle.ranks.proofs.Ranked.{rank_entry}

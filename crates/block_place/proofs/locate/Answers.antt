@@ -1,16 +1,12 @@
 -- `block_place::locate` meets its contract: each test that fails says why there is no block, and where all pass there is one.
-use mathlib.Core.List.{[], ◌∷◌}
-use mathlib.Core.Logic.{◌⊎◌, inl, inr, ⊎_elim}
+use mathlib.Core.Logic.{◌⊎◌, inl, inr}
 use mathlib.Core.Path.{◌≡◌, refl, sym, ◌∙◌}
 use Prim.Native.Nat.{ℕ, ◌<◌}
 use native.Mathlib.Omega.{arith}
-use denote.Enum.Declared.{tag_of}
-use types.Run.{OneOf}
 use Rattle.decimal.proofs.Decimal.{read_nine}
 use Rattle.block_parts.specs.Inner.{HeaderOf}
 use Rattle.block_parts.specs.declared.Header.{Header}
 use Rattle.block_parts.specs.declared.Header.TheVariants.{Definite, Indefinite, Other}
-use Rattle.block_parts.specs.contracts.Header.{the_type}
 use Rattle.block_parts.proofs.Placed.{block_placed}
 use Rattle.block_place.proofs.Missing.{not_said, too_few, not_marked, field, length_field, cut_short, not_digits, all_digits, not_ended, ended}
 use borrow.Author.Rules.{rules}

@@ -1,6 +1,5 @@
 -- `comparing::agree_bytes` meets its contract: before place k the bytes agree, and where it stops they do not.
 use Rattle.agreeing.proofs.Alike.{agrees_one}
-use Prim.Native.Nat.{◌-◌}
 use borrow.Author.Rules.{rules}
 use native.Mathlib.Omega.{arith}
 use Rattle.comparing.proofs.agree_bytes.Goals as goal

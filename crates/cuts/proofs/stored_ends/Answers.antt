@@ -1,5 +1,4 @@
 -- `cuts::stored_ends` meets its contract: each turn passes one factor, whose length stands in the table.
-use Prim.Native.Nat.{◌-◌}
 use native.Mathlib.Omega.{arith}
 use Rattle.ranks.specs.Ranks.{ranked}
 use Rattle.ranks.proofs.Ranked.{length_ranked}

@@ -1,6 +1,6 @@
 -- `entries::are_lengths` meets its contract: where all entries before place k of the block were found right, they are.
 use mathlib.Core.Path.{◌≡◌, refl}
-use Prim.Native.Nat.{◌+◌, ◌-◌}
+use Prim.Native.Nat.{◌+◌}
 use Rattle.words.proofs.Bounded.{true_false}
 use Rattle.rows.proofs.Fill.{right_none}
 use Rattle.rows.proofs.Block.{block_test}

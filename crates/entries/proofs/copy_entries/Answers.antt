@@ -13,12 +13,11 @@ pub loop-k-init : goal.loop-k-init
 loop-k-init c = (search rules, refl, agrees_none)
 
 pub loop-k-preserved : goal.loop-k-preserved
-loop-k-preserved c =
-    (
-      search rules,
-      length-set c.loop-k.block c.loop-k.k _ ∙ c.loop-k.invariant.1,
-      put_one c.loop-k.k c.loop-k.invariant.2 (search rules),
-    )
+loop-k-preserved c = (
+  search rules,
+  length-set c.loop-k.block c.loop-k.k _ ∙ c.loop-k.invariant.1,
+  put_one c.loop-k.k c.loop-k.invariant.2 (search rules),
+)
 
 pub loop-k-2-init : goal.loop-k-2-init
 loop-k-2-init c =

@@ -1,6 +1,5 @@
 -- `entries::same_entries` meets its contract: where all pairs before place k are equal, the entries agree that far.
 use mathlib.Core.Path.{◌≡◌}
-use Prim.Native.Nat.{◌-◌}
 use Rattle.agreeing.proofs.Alike.{agrees_none, agrees_test}
 use borrow.Author.Rules.{rules}
 use native.Mathlib.Omega.{arith}

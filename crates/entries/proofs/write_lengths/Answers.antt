@@ -1,6 +1,5 @@
 -- `entries::write_lengths` meets its contract: the entries before place k of the block are written.
 use mathlib.Core.Path.{◌≡◌}
-use Prim.Native.Nat.{◌-◌}
 use Rattle.rows.proofs.Block.{block_none, block_one}
 use borrow.Author.Rules.{rules}
 use native.Mathlib.Omega.{arith}

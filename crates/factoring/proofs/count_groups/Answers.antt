@@ -1,6 +1,5 @@
 -- `factoring::count_groups` meets its contract: the groups counted and the groups of what is left are all groups.
 use mathlib.Core.Path.{ap}
-use Prim.Native.Nat.{◌-◌}
 use lib.ListN.{length}
 use Rattle.ranks.specs.Ranks.{ranked}
 use Rattle.ranks.proofs.Ranked.{length_ranked}

@@ -1,6 +1,5 @@
 -- `factoring::fill_groups` meets its contract: what is still to be written are the numbers of the groups that are left, three of each.
 use mathlib.Core.Path.{ap}
-use Prim.Native.Nat.{◌-◌}
 use Rattle.ranks.specs.Ranks.{ranked}
 use Rattle.ranks.proofs.Ranked.{length_ranked}
 use Rattle.words.specs.Factors.{group_numbers}

@@ -1,6 +1,5 @@
 -- `factoring::last_factor` meets its contract: the last group of what is left, or the one before it where nothing is left, is the last of all.
 use Rattle.scan.proofs.Next.{group_long}
-use Prim.Native.Nat.{◌-◌}
 use Rattle.ranks.specs.Ranks.{ranked}
 use Rattle.ranks.proofs.Ranked.{length_ranked}
 use Rattle.words.specs.Factors.{factors}

@@ -1,5 +1,4 @@
 -- `longest::measure` meets its contract: `best` is the longest of the groups before place i, and `run` the power of its group.
-use Prim.Native.Nat.{◌-◌}
 use Rattle.ranks.specs.Ranks.{ranked}
 use Rattle.ranks.proofs.Ranked.{length_ranked}
 use Rattle.scan.proofs.Next.{group_long}

@@ -1,6 +1,5 @@
 -- `longest_writing::write_run` meets its contract: k of the starts stand in the row, and i is the next.
 use mathlib.Core.Path.{refl}
-use Prim.Native.Nat.{◌-◌}
 use Rattle.longest_writing.proofs.Writes.{run_none, run_long, run_room, run_next, run_one, run_all}
 use borrow.Author.Rules.{rules}
 use native.Mathlib.Omega.{arith}

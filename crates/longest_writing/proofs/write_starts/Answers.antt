@@ -1,5 +1,4 @@
 -- `longest_writing::write_starts` meets its contract: the starts of the groups before place i stand in the row, and the others are left.
-use Prim.Native.Nat.{◌-◌}
 use Rattle.ranks.specs.Ranks.{ranked}
 use Rattle.ranks.proofs.Ranked.{length_ranked}
 use Rattle.rows.proofs.Wrote.{wrote_length}
@@ -26,8 +25,8 @@ pub loop-i-preserved : goal.loop-i-preserved
 loop-i-preserved c =
     let turn = c.loop-i.invariant.0 in (
       elim c.if-g-size.branch [
-        then-g-size w ↦ rw (w.row-is, w.write_run-next.ensures.1, w.next-is, w.write_run-next.ensures.0) (list_run c.next_group-g.ensures turn w.if-g-size.true)
-      | else-g-size w ↦ rw (w.row-is, w.next-is) (list_over c.next_group-g.ensures turn w.if-g-size.false)
+        | then-g-size w ↦ rw (w.row-is, w.write_run-next.ensures.1, w.next-is, w.write_run-next.ensures.0) (list_run c.next_group-g.ensures turn w.if-g-size.true)
+        | else-g-size w ↦ rw (w.row-is, w.next-is) (list_over c.next_group-g.ensures turn w.if-g-size.false)
       ],
       c.loop-i.invariant.1,
     )

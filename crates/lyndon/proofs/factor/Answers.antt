@@ -42,8 +42,8 @@ fill_groups-count-requires c =
     let row = a.groups.now in
     let room : 3 * length (suffix_groups (ranked ranks s) 0) ≤ length row =
     elim c.if-groups-pattern.branch [
-      then-groups-pattern+else-groups-count w ↦ room_counted ranks s row w.count_groups-count.ensures w.if-groups-count.false
-    | else-groups-pattern w ↦ room_any ranks s row w.if-groups-pattern.false
+      | then-groups-pattern+else-groups-count w ↦ room_counted ranks s row w.count_groups-count.ensures w.if-groups-count.false
+      | else-groups-pattern w ↦ room_any ranks s row w.if-groups-pattern.false
     ] in
     (search rules, search rules, search rules, omega (arith, room))
 
@@ -56,8 +56,8 @@ returns c =
     let row = a.groups.now in
     let room : 3 * length (suffix_groups (ranked ranks s) 0) ≤ length row =
     elim c.if-groups-pattern.branch [
-      then-groups-pattern+else-groups-count w ↦ room_counted ranks s row w.count_groups-count.ensures w.if-groups-count.false
-    | else-groups-pattern w ↦ room_any ranks s row w.if-groups-pattern.false
+      | then-groups-pattern+else-groups-count w ↦ room_counted ranks s row w.count_groups-count.ensures w.if-groups-count.false
+      | else-groups-pattern w ↦ room_any ranks s row w.if-groups-pattern.false
     ] in
     let filled = c.fill_groups-count in
     factor_done t.ensures s row (record { refusal = 0; count = filled.result }) (not-false _ c.if-not-tested.false)

@@ -1,7 +1,6 @@
 -- `memo::best` meets its contract.
 use mathlib.Core.Logic.{inl, inr}
 use mathlib.Core.Path.{refl}
-use Prim.Native.Nat.{◌-◌}
 use borrow.Author.Rules.{rules}
 use Rattle.memo.proofs.best.Goals as goal
 

@@ -1,5 +1,4 @@
 -- `memo::entry` meets its contract.
-use Prim.Native.Nat.{◌-◌}
 use native.Mathlib.Omega.{arith}
 use Rattle.memo.proofs.entry.Goals as goal
 

@@ -1,5 +1,4 @@
 -- `order_bytes::bytes_of` meets its contract: the bytes before b stand at their ranks.
-use Prim.Native.Nat.{◌-◌}
 use mathlib.Core.Path.{sym, ◌∙◌}
 use Rattle.ranks.proofs.Ranked.{rank_entry}
 use Rattle.ranks.proofs.Inverse.{inverting_none, inverting_one, inverting_all}

@@ -1,5 +1,5 @@
 -- `order_bytes::fill_byte_order` meets its contract: the ranks before b are written, so the half of b is its own rank.
-use Prim.Native.Nat.{◌+◌, ◌-◌, ◌*◌, ◌/◌, ◌%◌}
+use Prim.Native.Nat.{◌+◌, ◌*◌, ◌/◌, ◌%◌}
 use lib.ListN.{set, length-set}
 use lib.Seq.{get_or-set_same}
 use Rattle.ranks.proofs.Ranked.{byte_order_lists}

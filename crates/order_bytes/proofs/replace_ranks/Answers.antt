@@ -1,6 +1,5 @@
 -- `order_bytes::replace_ranks` meets its contract: the entries before place k are replaced, those from there on are as they were.
 use mathlib.Core.Path.{◌≡◌, sym, ap, ◌∙◌}
-use Prim.Native.Nat.{◌-◌}
 use Rattle.ranks.specs.Ranks.{rank}
 use Rattle.ranks.proofs.Ranked.{rank_entry}
 use Rattle.ranks.proofs.Inverse.{replaced_none, replaced_one, replaced_all}

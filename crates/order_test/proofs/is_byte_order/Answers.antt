@@ -1,5 +1,5 @@
 -- `order_test::is_byte_order` meets its contract: the ranks before i are those of byte order.
-use Rattle.std.proofs.Common.{◌≡◌, ◌-◌, refl, arith, rules}
+use Rattle.std.proofs.Common.{◌≡◌, refl, arith, rules}
 use Rattle.words.proofs.Bounded.{true_false}
 use Rattle.rows.proofs.Fill.{right_one}
 use Rattle.ranks.proofs.Ranked.{byte_order_is, rising_on}

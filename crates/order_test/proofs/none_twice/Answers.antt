@@ -1,5 +1,5 @@
 -- `order_test::none_twice` meets its contract: the marks tell which ranks stood before place k, each once.
-use Rattle.std.proofs.Common.{◌-◌, arith, rules}
+use Rattle.std.proofs.Common.{arith, rules}
 use Rattle.ranks.proofs.Marks.{marked_none, marked_one, marked_twice, marked_all}
 use Rattle.order_test.proofs.none_twice.Goals as goal
 

@@ -1,5 +1,5 @@
 -- `order_test::rising_block` meets its contract: where all ranks before place k of the block were found to be one more than those before them, they are.
-use Rattle.std.proofs.Common.{◌≡◌, ◌+◌, ◌-◌, arith, rules}
+use Rattle.std.proofs.Common.{◌≡◌, ◌+◌, arith, rules}
 use Rattle.rows.proofs.Block.{block_test}
 use Rattle.rows.proofs.Fill.{right_none}
 use Rattle.order_test.proofs.rising_block.Goals as goal

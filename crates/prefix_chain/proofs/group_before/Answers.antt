@@ -2,7 +2,7 @@
 use Prim.Native.Nat.{◌-◌}
 use Rattle.ranks.specs.Ranks.{Bytes, ranked}
 use Rattle.ranks.proofs.Ranked.{length_ranked}
-use Rattle.prefix_chain.proofs.Before.{equal_start, equal_turn, stop_start, stop_length, stop_word, table_room, table_entry, table_fits, }
+use Rattle.prefix_chain.proofs.Before.{equal_start, equal_turn, stop_start, stop_length, stop_word, table_room, table_entry, table_fits}
 use borrow.Author.Rules.{rules}
 use native.Mathlib.Omega.{arith}
 use Rattle.prefix_chain.proofs.group_before.Goals as goal

@@ -1,9 +1,8 @@
 -- `prefix_chain::group_before` meets its contract: the loop counts equal factors back, and where it stops the group is read off.
 use mathlib.Core.Path.{◌≡◌}
-use Prim.Native.Nat.{◌-◌}
 use lib.ListN.{length}
 use Rattle.ranks.specs.Ranks.{ranked}
-use Rattle.prefix_chain.proofs.Before.{Equal, }
+use Rattle.prefix_chain.proofs.Before.{Equal}
 use Rattle.prefix_chain.proofs.group_before.Given as goal
 
 abbrev pub invariant-loop-j : goal.invariant-loop-j

@@ -1,5 +1,4 @@
 -- `prefix_making_leaps::make_again` meets its contract: block by block the entries up to j are made.
-use Prim.Native.Nat.{◌-◌}
 use Rattle.ranks.proofs.Ranked.{length_ranked}
 use Rattle.agreeing.proofs.Alike.{agrees_ranked}
 use Rattle.prefix_making_leaps.proofs.Steps.{making_again, back_later}

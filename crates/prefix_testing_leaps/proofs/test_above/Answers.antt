@@ -1,5 +1,4 @@
 -- `prefix_testing_leaps::test_above` meets its contract: block by block the entries up to j are right.
-use Prim.Native.Nat.{◌-◌}
 use Rattle.ranks.proofs.Ranked.{length_ranked}
 use Rattle.above.proofs.Beyond.{above_told}
 use Rattle.prefix_table.proofs.Start.{start_below}

@@ -1,5 +1,4 @@
 -- `prefix_testing_leaps::test_again` meets its contract: block by block the entries up to j are right.
-use Prim.Native.Nat.{◌-◌}
 use Rattle.ranks.proofs.Ranked.{length_ranked}
 use Rattle.agreeing.proofs.Alike.{agrees_ranked}
 use Rattle.prefix_table.proofs.Blocks.{again_block}

@@ -1,6 +1,6 @@
 -- `rank_leaps::broken_block` meets its contract: where all places before j + u passed, no eight bytes c begin at them.
 use mathlib.Core.Path.{◌≡◌}
-use Prim.Native.Nat.{◌+◌, ◌-◌}
+use Prim.Native.Nat.{◌+◌}
 use borrow.Author.Rules.{rules}
 use native.Mathlib.Omega.{arith}
 use Rattle.rank_leaps.proofs.Breaking.{broken_none, broken_test}

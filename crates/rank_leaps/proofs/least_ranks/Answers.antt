@@ -1,6 +1,6 @@
 -- `rank_leaps::least_ranks` meets its contract: where the ranks of all bytes before place u passed, they are d or above.
 use mathlib.Core.Path.{◌≡◌, refl}
-use Prim.Native.Nat.{◌+◌, ◌-◌}
+use Prim.Native.Nat.{◌+◌}
 use borrow.Author.Rules.{rules}
 use native.Mathlib.Omega.{arith}
 use Rattle.ranks.proofs.Ranked.{entry_ranked}

@@ -1,6 +1,5 @@
 -- `rank_leaps::ranks_run` meets its contract: no eight bytes c begin before k, and no rank there is below that of c, which is d.
 use mathlib.Core.Path.{sym, ap, ◌∙◌}
-use Prim.Native.Nat.{◌-◌}
 use lib.ListN.{get_or}
 use native.Mathlib.Omega.{arith}
 use borrow.Author.Rules.{rules}

@@ -1,6 +1,6 @@
 -- `reach_compare::beside_from` meets its contract: the symbols where the words first differ, or their lengths, say which is smaller.
 use mathlib.Core.Path.{◌≡◌}
-use Prim.Native.Nat.{◌+◌, ◌-◌}
+use Prim.Native.Nat.{◌+◌}
 use native.Mathlib.Omega.{arith}
 use Rattle.agreeing.proofs.Alike.{agrees_one}
 use Rattle.reach_compare.proofs.Bytes.{beside_differ, beside_end}

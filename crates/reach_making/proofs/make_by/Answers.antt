@@ -18,13 +18,12 @@ loop-i-init c =
     (c.requires.2, refl, c.requires.4, filled_start (longest_at (ranked o s)) (length s) (rw e at c.requires.3.right), e)
 
 pub longest_at-l-requires : goal.longest_at-l-requires
-longest_at-l-requires c =
-    (
-      c.requires.0,
-      omega arith,
-      record { room = omega (arith, c.loop-i.invariant.3.size, c.requires.3.room); right = λ k b d. c.loop-i.invariant.3.inside k (omega arith) (omega arith) },
-      c.loop-i.invariant.2,
-    )
+longest_at-l-requires c = (
+  c.requires.0,
+  omega arith,
+  record { room = omega (arith, c.loop-i.invariant.3.size, c.requires.3.room); right = λ k b d. c.loop-i.invariant.3.inside k (omega arith) (omega arith) },
+  c.loop-i.invariant.2,
+)
 
 pub overflow_cast-table : goal.overflow_cast-table
 overflow_cast-table c =

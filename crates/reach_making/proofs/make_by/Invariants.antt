@@ -5,7 +5,7 @@ use Rattle.words.specs.Tables.{longest_at}
 use Rattle.ranks.specs.Ranks.{ranked}
 use Rattle.rows.proofs.Fill.{Filled}
 use Rattle.memo.specs.Memo.{Memo}
-use Prim.Native.Nat.{◌-◌, ◌≤◌}
+use Prim.Native.Nat.{◌≤◌}
 use Rattle.reach_making.proofs.make_by.Given as goal
 
 abbrev pub invariant-loop-i : goal.invariant-loop-i

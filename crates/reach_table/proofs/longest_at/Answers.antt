@@ -5,7 +5,6 @@ use Rattle.ranks.proofs.Ranked.{length_ranked}
 use borrow.Author.Tests.{not-true, not-false}
 use Rattle.reach_table.proofs.Reach.{grown_start, next_some, next_fits, grown_end}
 use Rattle.reach_table.proofs.Merging.{merging_start, merging_known, merging_place, merging_turn, merging_stop, merging_slot}
-use Prim.Native.Nat.{◌-◌}
 use native.Mathlib.Omega.{arith}
 use Rattle.reach_table.proofs.longest_at.Goals as goal
 

@@ -4,7 +4,6 @@ use Rattle.ranks.specs.Ranks.{ranked}
 use Rattle.ranks.proofs.Ranked.{length_ranked}
 use borrow.Author.Tests.{not-true, not-false}
 use Rattle.reach_table.proofs.Reach.{grown_start, grown_turn, grown_stop, grown_end, next_some, next_fits}
-use Prim.Native.Nat.{◌-◌}
 use native.Mathlib.Omega.{arith}
 use Rattle.reach_table.proofs.merge_at.Goals as goal
 

@@ -4,7 +4,7 @@ use lib.ListN.{length}
 use Rattle.words.specs.Tables.{longest_at}
 use Rattle.ranks.specs.Ranks.{ranked}
 use Rattle.rows.proofs.Fill.{Right}
-use Prim.Native.Nat.{◌-◌, ◌≤◌}
+use Prim.Native.Nat.{◌≤◌}
 use Rattle.reach_testing.proofs.test_plain.Given as goal
 
 abbrev pub invariant-loop-tested : goal.invariant-loop-tested

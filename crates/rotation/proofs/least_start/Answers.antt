@@ -1,5 +1,4 @@
 -- `rotation::least_start` meets its contract: the pass is at the least start or before it.
-use Prim.Native.Nat.{◌-◌}
 use Rattle.ranks.specs.Ranks.{ranked}
 use Rattle.ranks.proofs.Ranked.{length_ranked}
 use Rattle.scan.proofs.Next.{group_long}

@@ -33,10 +33,10 @@ loop-j-2-preserved c =
     let y : c.loop-j-2.j < length a.s.now = search rules in (
       search rules,
       elim c.if-x-y.branch [
-        then-x-y+else-below w ↦
-          rw w.p-is (turn_up c.loop-j-2.invariant.1 (search rules) (ranks_below a.ranks.now a.s.now a.s.now (c.loop-j-2.j - c.loop-j-2.p) c.loop-j-2.j x y (w.below.ensures.no w.if-below.false (turned w.if-x-y.true))))
-      | else-x-y w ↦
-          rw w.p-is (turn_same c.loop-j-2.invariant.1 (search rules) (ranks_agree a.ranks.now a.s.now a.s.now (c.loop-j-2.j - c.loop-j-2.p) c.loop-j-2.j x y w.if-x-y.false))
+        | then-x-y+else-below w ↦
+            rw w.p-is (turn_up c.loop-j-2.invariant.1 (search rules) (ranks_below a.ranks.now a.s.now a.s.now (c.loop-j-2.j - c.loop-j-2.p) c.loop-j-2.j x y (w.below.ensures.no w.if-below.false (turned w.if-x-y.true))))
+        | else-x-y w ↦
+            rw w.p-is (turn_same c.loop-j-2.invariant.1 (search rules) (ranks_agree a.ranks.now a.s.now a.s.now (c.loop-j-2.j - c.loop-j-2.p) c.loop-j-2.j x y w.if-x-y.false))
       ],
       c.loop-j-2.invariant.2,
     )

@@ -1,6 +1,5 @@
 -- `suffix_chain::count_suffix` meets its contract: the groups counted and those that stand from the place on are all.
 use mathlib.Core.Path.{ap}
-use Prim.Native.Nat.{◌-◌}
 use lib.ListN.{length}
 use Rattle.ranks.specs.Ranks.{ranked}
 use Rattle.ranks.proofs.Ranked.{length_ranked}

@@ -1,6 +1,5 @@
 -- `suffix_chain::group_at_lem` meets its contract: the loop counts equal factors forward, and where it stops the group is read off.
 use mathlib.Core.Path.{◌∙◌}
-use Prim.Native.Nat.{◌-◌}
 use lib.ListN.{get_or}
 use Rattle.ranks.specs.Ranks.{Bytes, ranked}
 use Rattle.ranks.proofs.Ranked.{length_ranked}

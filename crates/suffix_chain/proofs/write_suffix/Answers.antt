@@ -1,5 +1,4 @@
 -- `suffix_chain::write_suffix` meets its contract: the numbers of the groups that stand before i are written, and those of the others are left.
-use Prim.Native.Nat.{◌-◌}
 use lib.ListN.{length-set}
 use Rattle.ranks.specs.Ranks.{ranked}
 use Rattle.ranks.proofs.Ranked.{length_ranked}

@@ -1,5 +1,4 @@
 -- `text_fields::write_word` meets its contract: the digits of the first k bytes stand in the buffer, and those of the others are left.
-use Prim.Native.Nat.{◌-◌}
 use lib.ListN.{length-set}
 use Rattle.rows.proofs.Wrote.{wrote_length}
 use Rattle.text.specs.Hexadecimal.{hexadecimal}

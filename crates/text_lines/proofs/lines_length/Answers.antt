@@ -1,6 +1,5 @@
 -- `text_lines::lines_length` meets its contract: what was measured and what is left are all lines.
 use mathlib.Core.Path.{ap}
-use Prim.Native.Nat.{◌-◌}
 use lib.ListN.{length}
 use native.Mathlib.Omega.{arith}
 use Rattle.ranks.specs.Ranks.{ranked}

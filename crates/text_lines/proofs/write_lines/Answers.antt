@@ -1,6 +1,5 @@
 -- `text_lines::write_lines` meets its contract: what is still to be written are the lines of the groups that are left.
 use mathlib.Core.Path.{ap}
-use Prim.Native.Nat.{◌-◌}
 use native.Mathlib.Omega.{arith}
 use Rattle.ranks.specs.Ranks.{ranked}
 use Rattle.ranks.proofs.Ranked.{length_ranked}
