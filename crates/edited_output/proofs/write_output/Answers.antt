@@ -17,10 +17,10 @@ write_refusal-requires-in_default c =
 
 pub returns-in_default : goal.returns-in_default
 returns-in_default c =
-    let none = rw c.enum_told-1.given.1 at c.parse.ensures in
+    let none = c.in_default.ensures in
     prints_malformed _ _ _ (search rules) none c.write_refusal-in_default.ensures
 
 pub returns : goal.returns
 returns c =
-    let says = rw c.stretch-1.given.1 at c.parse.ensures in
+    let says = c.in-Edit.ensures in
     prints_edit _ _ _ (search rules) says c.write_answer.ensures
