@@ -19,7 +19,7 @@ returns-in_default c =
     (λ i h. omega (arith, c.shared_slice_known-1.given i)) (λ i h. omega (arith, c.shared_slice_known-2-1.given i))
     c.requires.0 c.lyndon_array.ensures (search rules) c.last_factors.ensures (search rules) c.core-answer.ensures
     (search (rules, max_middle_lem)) (search rules)
-    c.enum_told-in_default-1.given.1 c.refusal_of.ensures c.write_refusal.ensures
+    c.in_default.is c.refusal_of.ensures c.write_refusal.ensures
 
 pub write_edited-requires : goal.write_edited-requires
 write_edited-requires c =
@@ -28,7 +28,7 @@ write_edited-requires c =
     (λ i h. omega (arith, c.shared_slice_known-1.given i)) (λ i h. omega (arith, c.shared_slice_known-2-1.given i))
     c.requires.0 c.lyndon_array.ensures (search rules) c.last_factors.ensures (search rules) c.core-answer.ensures
     (search (rules, max_middle_lem)) (search rules)
-    a.text.now c.enum_told-1.given.1 c.requires.1
+    a.text.now c.in-Done.is c.requires.1
 
 pub returns : goal.returns
 returns c =
@@ -37,4 +37,4 @@ returns c =
     (λ i h. omega (arith, c.shared_slice_known-1.given i)) (λ i h. omega (arith, c.shared_slice_known-2-1.given i))
     c.requires.0 c.lyndon_array.ensures (search rules) c.last_factors.ensures (search rules) c.core-answer.ensures
     (search (rules, max_middle_lem)) (search rules)
-    c.enum_told-1.given.1 c.write_edited.ensures
+    c.in-Done.is c.write_edited.ensures
