@@ -7,8 +7,6 @@ ghost use Rattle.ranks.specs.Inner.{Ranks};
 ghost use Rattle.ranks.specs.Ranks.{rank, ranked};
 ghost use Rattle.above.specs.Above.{Above, AboveEnd, AboveBlock};
 
-use symbols::wide;
-
 // Whether the sixteen bytes from j are all above c, in byte order.
 fn above_bytes(s: &[u8], j: usize, c: u8) -> bool
     requires { j + 16 ≤ length s.now }
@@ -16,8 +14,7 @@ fn above_bytes(s: &[u8], j: usize, c: u8) -> bool
 {
     let mut all = true;
     for u in 0..16 {
-        let x = s[j + u];
-        all = all & (c < x);
+        all &= c < s[j + u];
     }
     all
 }
@@ -29,9 +26,9 @@ fn above_ranks(s: &[u8], ranks: &[u8], j: usize, d: u8) -> bool
 {
     let mut all = true;
     for u in 0..16 {
-        let at = wide(s[j + u]);
+        let at = usize::from(s[j + u]);
         let x = ranks[at];
-        all = all & (d < x);
+        all &= d < x;
     }
     all
 }
@@ -41,16 +38,13 @@ pub fn ranks_above(s: &[u8], ranks: &[u8], j: usize, c: u8) -> usize
     requires { (length ranks.now ≡ 256) × (j ≤ length s.now) }
     ensures { (j ≤ result) × (result ≤ length s.now) × Above (ranked ranks.now s.now) (rank ranks.now c) j result }
 {
-    let at = wide(c);
-    let d = ranks[at];
-    let mut k = j;
-    while 16 <= s.len() - k {
-        if !above_ranks(s, ranks, k, d) {
+    let d = ranks[usize::from(c)];
+    for k in (j..s.len()).step_by(16) {
+        if s.len() - k < 16 || !above_ranks(s, ranks, k, d) {
             return k;
         }
-        k += 16;
     }
-    k
+    s.len()
 }
 
 // Where blocks of bytes above c may end that begin at j: in another order, where each byte is looked up, they do; in byte order the end of the

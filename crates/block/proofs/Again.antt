@@ -11,10 +11,9 @@ use Rattle.decimal.specs.Decimal.{decimal}
 use Rattle.words.proofs.Bounded.{le_or_lt, true_or_false}
 use Rattle.refusals.proofs.First.{First, none, holds, too_long, not_long, not_short, first_is}
 use Rattle.refusals.specs.Refusals.{Refusal, first_of, unless_refused, row_after, max_pattern, pattern_too_long, too_short}
-use Rattle.refusals.specs.declared.Filled.{Filled}
+use Rattle.refusals.specs.Filled.{Filled}
 use Rattle.block_parts.specs.Block.{bytes_place, bytes_count, block_bytes, is_block, block_of}
-use Rattle.block.specs.Calls.{not_block, read_refusals, BlockRead, BlockWritten}
-use Rattle.block.specs.declared.Extent.{Extent}
+use Rattle.block.specs.Calls.{Extent, not_block, read_refusals, BlockRead, BlockWritten}
 use Rattle.block_parts.proofs.Placed.{block_length}
 use Rattle.block.proofs.Theorems.{written_read, Rewritten, read_written}
 

@@ -15,7 +15,6 @@ use Rattle.refusals.specs.Refusals.{first_of, unless_refused, max_pattern}
 use Rattle.block_parts.specs.Block.{Block, bytes_place, bytes_count, block_bytes, block_of}
 use Rattle.block.specs.Calls.{read_refusals, not_block, BlockRead}
 use Rattle.block_parts.specs.Inner.{NoBlock}
-use Rattle.block.specs.declared.Extent.{Extent}
 use Rattle.block_parts.proofs.Placed.{decimal_one}
 use Rattle.block_parts.proofs.Tested.{block_test, block_place, block_count, block_holds, no_block}
 
@@ -38,23 +37,24 @@ module _ {block : List ℕ} where
     first_none h = first_is (passes {r = not_block block} (rw (block_test b) refl) (not_long (block_bytes block) (omega (arith, size)) none))
 
 -- what the reader answers
-module _ {block : List ℕ} {r : Extent} where
-  pub read_refused : {k : ℕ} → first_of (read_refusals block) ≡ suc k → (r.refusal ≡ suc k) × (r.place ≡ 0) × (r.count ≡ 0) → BlockRead block r
-  read_refused f q =
+module _ {block : List ℕ} where
+  pub read_refused : {k : ℕ} → first_of (read_refusals block) ≡ suc k → BlockRead block (record { refusal = suc k; place = 0; count = 0 })
+  read_refused f =
+      let e = sym f in
       record {
-        refusal = q.0 ∙ sym f;
-        place = q.1 ∙ ap (λ n. unless_refused n (bytes_place block) 0) (sym f);
-        count = q.2 ∙ ap (λ n. unless_refused n (bytes_count block) 0) (sym f);
+        refusal = e;
+        place = ap (λ n. unless_refused n (bytes_place block) 0) e;
+        count = ap (λ n. unless_refused n (bytes_count block) 0) e;
       }
 
-  pub read_accepted : {place count : ℕ} → Block block place count → count ≤ max_pattern → r.refusal ≡ 0 → r.place ≡ place → r.count ≡ count
-      → BlockRead block r
-  read_accepted b h e p c =
+  pub read_accepted : {place count : ℕ} → Block block place count → count ≤ max_pattern
+      → BlockRead block (record { refusal = 0; place = place; count = count })
+  read_accepted b h =
       let f = sym (first_none b h) in
       record {
-        refusal = e ∙ f;
-        place = p ∙ sym (block_place b) ∙ ap (λ n. unless_refused n (bytes_place block) 0) f;
-        count = c ∙ sym (block_count b) ∙ ap (λ n. unless_refused n (bytes_count block) 0) f;
+        refusal = f;
+        place = sym (block_place b) ∙ ap (λ n. unless_refused n (bytes_place block) 0) f;
+        count = sym (block_count b) ∙ ap (λ n. unless_refused n (bytes_count block) 0) f;
       }
 
 -- the block of a pattern, part by part

@@ -6,8 +6,9 @@ ghost use Rattle.std.specs.Prelude.{◌≡◌};
 ghost use Rattle.block_parts.specs.Block.{ends_at};
 ghost use Rattle.block_parts.specs.Inner.{HeaderOf};
 
-// What the byte after the hash mark says: how many digits follow, that no count is given, or nothing.
-#[derive(Drop)]
+// What the byte after the hash mark says: how many digits follow, that no count is given, or nothing. Three cases: no
+// Option.
+#[derive(Clone, Copy)]
 pub enum Header {
     Definite(usize),
     Indefinite,
@@ -31,12 +32,9 @@ pub fn ends_at(block: &[u8], end: usize) -> bool
     if block.len() < end {
         return false;
     }
-    let behind = block.len() - end;
-    if behind == 0 {
-        return true;
+    match &block[end..] {
+        [] => true,
+        [byte] => *byte == b'\n',
+        _ => false,
     }
-    if 1 < behind {
-        return false;
-    }
-    block[end] == b'\n'
 }

@@ -21,13 +21,6 @@ not_said (inl e) q p = omega (arith, p.said, p.some)
 not_said (inr (inl h)) q p = omega (arith, p.said)
 not_said (inr (inr h)) q p = omega (arith, p.said, p.few)
 
-module _ {block : List ℕ} where
-  pub too_few : length block < 2 → NoBlock block
-  too_few h place count b = omega (arith, (block_placed b).fits)
-
-  pub not_marked : (get_or block 0 0 ≡ 35 → ⊥) → NoBlock block
-  not_marked h place count b = h (block_placed b).mark
-
 -- the digits as the code cuts them out
 abbrev pub field : List ℕ → ℕ → List ℕ
 field block n = take (2 + n - 2) (drop 2 block)

@@ -6,42 +6,36 @@ ghost use Rattle.block_place.specs.Located.{Locates};
 use block_parts::{Header, ends_at, header_of};
 use decimal::{leading_digits, value_of};
 
-#[derive(Drop)]
+#[derive(Clone, Copy)]
 pub struct Span {
     pub place: usize,
     pub count: usize,
 }
 
-#[derive(Drop)]
-pub enum Located {
-    Bytes(Span),
-    Nowhere,
-}
-
 // Where the bytes of a block are, however many they are.
-pub fn locate(block: &[u8]) -> Located
+pub fn locate(block: &[u8]) -> Option<Span>
     ensures { Locates block.now result }
 {
     let size = block.len();
     if size < 2 {
-        return Located::Nowhere;
+        return None;
     }
     if block[0] != b'#' {
-        return Located::Nowhere;
+        return None;
     }
     let Header::Definite(digits) = header_of(block[1]) else {
-        return Located::Nowhere;
+        return None;
     };
     let place = 2 + digits;
     if size < place {
-        return Located::Nowhere;
+        return None;
     }
     if leading_digits(&block[2..place]) < digits {
-        return Located::Nowhere;
+        return None;
     }
     let count = value_of(&block[2..place]);
     if !ends_at(block, place + count) {
-        return Located::Nowhere;
+        return None;
     }
-    Located::Bytes(Span { place, count })
+    Some(Span { place, count })
 }

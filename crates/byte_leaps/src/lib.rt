@@ -2,62 +2,39 @@
 // what follows is greater than what follows in the word.
 #![tactic(auto)]
 
-ghost use Rattle.std.specs.Prelude.{true, ◌≡◌, ◌≤◌, ◌+◌, ◌-◌, length};
+ghost use Rattle.std.specs.Prelude.{true, ◌≡◌, ℕ, ◌≤◌, ◌<◌, ◌+◌, ◌-◌, length};
 ghost use Rattle.words.specs.Scan.{Scan};
-ghost use Rattle.rising.specs.Risen.{Breaks, Exceeds, Risen};
+ghost use Rattle.rising.specs.Risen.{Risen};
 
 use rising::{breaks, last_other};
 
-// Whether each of the sixteen bytes from j is above c, or is c with a byte that is not c among the seven behind it.
-fn run_block(s: &[u8], j: usize, c: u8) -> bool
-    requires { j + 23 ≤ length s.now }
-    ensures { result ≡ true → Risen s.now c (Breaks s.now c) j (j + 16) }
+// Whether each of the sixteen bytes from j is above c, or is c where its place meets the test.
+fn risen_block<F: Fn(usize) -> bool>(s: &[u8], j: usize, c: u8, meets: &F) -> bool
+    requires within { j + 16 ≤ length s.now }
+    requires callable { (t : ℕ) → t < j + 16 → F.pre meets.now t }
+    ensures { result ≡ true → Risen s.now c (λ t. F.post meets.now t true) j (j + 16) }
 {
     let mut all = true;
     for u in 0..16 {
         let x = s[j + u];
-        all = all & ((c < x) | (c == x) & breaks(s, j + u, c));
+        all &= (c < x) | (c == x) & meets(j + u);
     }
     all
 }
 
-// How far from j on that holds, block by block.
-fn run_blocks(s: &[u8], j: usize, c: u8) -> usize
-    requires { j ≤ length s.now }
-    ensures { (j ≤ result) × (result ≤ length s.now) × Risen s.now c (Breaks s.now c) j result }
+// How far from j on that holds, block by block, where the test of a place reads so many bytes behind it.
+fn risen_blocks<F: Fn(usize) -> bool>(s: &[u8], j: usize, c: u8, behind: usize, meets: &F) -> usize
+    requires from { j ≤ length s.now }
+    requires fits { behind < 16 }
+    requires callable { (t : ℕ) → t + behind < length s.now → F.pre meets.now t }
+    ensures after { j ≤ result }
+    ensures within { result ≤ length s.now }
+    ensures risen { Risen s.now c (λ t. F.post meets.now t true) j result }
 {
+    // No `step_by(16)`: it tests the end twice more a turn, beside a few vector instructions.
     let mut k = j;
-    while 23 <= s.len() - k {
-        if !run_block(s, k, c) {
-            return k;
-        }
-        k += 16;
-    }
-    k
-}
-
-// Whether each of the sixteen bytes from j is above c, or is c with a byte above d behind it.
-fn pair_block(s: &[u8], j: usize, c: u8, d: u8) -> bool
-    requires { j + 17 ≤ length s.now }
-    ensures { result ≡ true → Risen s.now c (Exceeds s.now d) j (j + 16) }
-{
-    let mut all = true;
-    for u in 0..16 {
-        let x = s[j + u];
-        let y = s[j + u + 1];
-        all = all & ((c < x) | (c == x) & (d < y));
-    }
-    all
-}
-
-// How far from j on that holds, block by block.
-fn pair_blocks(s: &[u8], j: usize, c: u8, d: u8) -> usize
-    requires { j ≤ length s.now }
-    ensures { (j ≤ result) × (result ≤ length s.now) × Risen s.now c (Exceeds s.now d) j result }
-{
-    let mut k = j;
-    while 17 <= s.len() - k {
-        if !pair_block(s, k, c, d) {
+    while 16 + behind <= s.len() - k {
+        if !risen_block(s, k, c, meets) {
             return k;
         }
         k += 16;
@@ -74,9 +51,9 @@ pub fn grow_bytes(s: &[u8], i: usize, j: usize) -> usize
     let c = s[i];
     if breaks(s, i, c) {
         let d = s[i + 1];
-        let k = pair_blocks(s, j, c, d);
+        let k = risen_blocks(s, j, c, 1, &|t| d < s[t + 1]);
         return last_other(s, j, k, c);
     }
-    let k = run_blocks(s, j, c);
+    let k = risen_blocks(s, j, c, 7, &|t| breaks(s, t, c));
     last_other(s, j, k, c)
 }

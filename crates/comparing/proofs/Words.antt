@@ -2,7 +2,7 @@
 use mathlib.Core.List.{List}
 use mathlib.Core.Logic.{◌⊎◌, inl, inr}
 use mathlib.Core.Path.{◌≡◌, refl, sym, ap, ◌∙◌}
-use Prim.Native.Nat.{ℕ, ◌+◌, ◌≤◌, ◌<◌}
+use Prim.Native.Nat.{ℕ, ◌+◌, ◌≤◌, ◌<◌, min}
 use native.Mathlib.Omega.{arith}
 use lib.ListN.{length, take, drop, get_or}
 use lib.Seq.{take-take, ext_get_or}
@@ -42,9 +42,9 @@ module _ (s : List ℕ) (i m j y e : ℕ) (g : Agrees s i s j e) (p : i + m ≤ 
       ∙ less_ends this next e (omega (arith, long)) (omega (arith, wide)) (go d)
       ∙ ap (λ u. ltb u (length next)) long ∙ ap (ltb m) wide
     where
-      go : (m ≤ e) ⊎ (y ≤ e) → (length this ≤ e) ⊎ (length next ≤ e)
-      go (inl h) = inl (omega (arith, long))
-      go (inr h) = inr (omega (arith, wide))
+      go : (m ≤ e) ⊎ (y ≤ e) → min (length this) (length next) ≤ e
+      go (inl h) = omega (arith, long)
+      go (inr h) = omega (arith, wide)
 
   pub words_differ : e < m → e < y → (get_or s (i + e) 0 ≡ get_or s (j + e) 0 → ⊥) → less this next ≡ ltb (get_or s (i + e) 0) (get_or s (j + e) 0)
   words_differ h l d =

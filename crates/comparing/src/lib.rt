@@ -2,51 +2,47 @@
 // Whether bytes agree does not depend on their ranks, so these are looked up at the first difference alone.
 #![tactic(auto)]
 
-ghost use Rattle.std.specs.Prelude.{cond, ◌≡◌, ◌≤◌, ◌+◌, ltb, length, take, drop};
+ghost use Rattle.std.specs.Prelude.{◌≡◌, ◌≤◌, ◌+◌, length, take, drop};
 ghost use Rattle.words.specs.Order.{same, shared};
 ghost use Rattle.agreeing.specs.Agrees.{Agrees, Begun, Agreed};
 ghost use Rattle.ranks.specs.Inner.{Ranks};
-ghost use Rattle.comparing.specs.Compared.{compared, SharedTold};
+ghost use Rattle.comparing.specs.Compared.{compared, smaller_of, SharedTold};
 
 use agreeing::agree_blocks;
-use rows::shorter;
+use std::cmp::Ordering;
 use symbols::rank_of;
-
-// Which of two numbers is smaller, as `Compared` has it of strings.
-fn smaller_number(m: usize, n: usize) -> u8
-    ensures { result ≡ cond (ltb m n) 1 (cond (ltb n m) 2 0) }
-{
-    if m < n {
-        return 1;
-    }
-    if n < m {
-        return 2;
-    }
-    0
-}
 
 // How many of the first `len` bytes from i of a and from j of b agree, byte by byte; the first `from` do.
 pub fn agree_bytes(a: &[u8], i: usize, b: &[u8], j: usize, from: usize, len: usize) -> usize
     requires { Begun a.now i b.now j from len }
     ensures { Agreed a.now i b.now j from len result }
 {
-    let mut k = from;
-    while k < len {
+    for k in from..len {
         let left = a[i + k];
         let right = b[j + k];
         if left != right {
             return k;
         }
-        k += 1;
     }
-    k
+    len
 }
 
-// What is told of two strings: their shared length, and which is smaller, 1 the first, 2 the second, 0 where neither is.
-#[derive(Drop)]
+// What is told of two strings: their shared length, and how the first is ordered to the second.
+#[derive(Clone, Copy)]
 pub struct Compared {
     pub shared: usize,
-    pub smaller: u8,
+    pub ordering: Ordering,
+}
+
+// The number of the string that is smaller: 1 the first, 2 the second, 0 where neither is.
+pub fn smaller_number(ordering: Ordering) -> u8
+    ensures { result ≡ smaller_of ordering }
+{
+    match ordering {
+        Ordering::Less => 1,
+        Ordering::Greater => 2,
+        Ordering::Equal => 0,
+    }
 }
 
 // How many of the first `end` bytes of two strings agree, in whole blocks; of a few bytes none, which the byte loop compares as fast.
@@ -64,7 +60,7 @@ fn first_blocks(a: &[u8], b: &[u8], end: usize) -> usize
 fn shared_bytes(a: &[u8], b: &[u8]) -> usize
     ensures { SharedTold a.now b.now result }
 {
-    let end = shorter(a.len(), b.len());
+    let end = a.len().min(b.len());
     let k = first_blocks(a, b, end);
     agree_bytes(a, 0, b, 0, k, end)
 }
@@ -75,17 +71,17 @@ pub fn compare(a: &[u8], b: &[u8], ranks: &[u8]) -> Compared
     ensures { result ≡ compared ranks.now a.now b.now }
 {
     let k = shared_bytes(a, b);
-    if k < shorter(a.len(), b.len()) {
+    if k < a.len().min(b.len()) {
         let x = rank_of(ranks, a[k]);
         let y = rank_of(ranks, b[k]);
         return Compared {
             shared: k,
-            smaller: smaller_number(x, y),
+            ordering: x.cmp(&y),
         };
     }
     Compared {
         shared: k,
-        smaller: smaller_number(a.len(), b.len()),
+        ordering: a.len().cmp(&b.len()),
     }
 }
 
@@ -93,10 +89,7 @@ pub fn compare(a: &[u8], b: &[u8], ranks: &[u8]) -> Compared
 pub fn agree(a: &[u8], b: &[u8]) -> bool
     ensures { result ≡ same a.now b.now }
 {
-    if a.len() != b.len() {
-        return false;
-    }
-    shared_bytes(a, b) == a.len()
+    a == b
 }
 
 // The shared length of two parts of a pattern, of m bytes from i on and of n bytes from j on.

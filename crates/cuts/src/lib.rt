@@ -8,7 +8,7 @@ ghost use Rattle.words.specs.Tables.{lyndon_array};
 ghost use Rattle.cuts.specs.Bounds.{EndsBy, ends_with, start_with};
 
 // How many leading factors end at or before a place, and where the last of them ends.
-#[derive(Drop)]
+#[derive(Clone, Copy)]
 pub struct Ends {
     pub count: usize,
     pub end: usize,
@@ -21,6 +21,7 @@ pub fn stored_ends(s: &[u8], ranks: &[u8], table: &[u16], q: usize) -> Ends
 {
     let mut count = 0;
     let mut end = 0;
+    // A turn goes from one factor to the next, by the length that the table has: `end += table[end]` is the step of no range.
     while end < s.len() {
         let next = end + table[end] as usize;
         if q < next {
@@ -33,6 +34,7 @@ pub fn stored_ends(s: &[u8], ranks: &[u8], table: &[u16], q: usize) -> Ends
 }
 
 // Of any pattern, group by group: the ends by place q, when a group from i on joins the factors before it.
+#[tactic(auto, unfolding(crate::specs::Bounds::ends_with))]
 pub fn ends_with(ends: Ends, q: usize, i: usize, length: usize, power: usize) -> Ends
     requires { (0 < length) × (i + power * length < 18446744073709551616) × (ends.count + power < 18446744073709551616) }
     ensures { result ≡ ends_with ends q i length power }
@@ -55,6 +57,7 @@ pub fn ends_with(ends: Ends, q: usize, i: usize, length: usize, power: usize) ->
 }
 
 // The first start of a factor at or after q, or the end of the last, when a group from i on joins the factors before it.
+#[tactic(auto, unfolding(crate::specs::Bounds::start_with))]
 pub fn start_with(place: usize, q: usize, i: usize, length: usize, power: usize) -> usize
     requires { (0 < length) × (i + power * length + length < 18446744073709551616) }
     ensures { result ≡ start_with place q i length power }

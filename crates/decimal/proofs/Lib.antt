@@ -1,4 +1,3 @@
 pub mod Decimal
 pub mod Spelling
-pub mod Digits
 pub mod Zeros

@@ -1,12 +1,12 @@
 -- One turn of the loop that writes a number in decimal: the last digit of what is left goes before the digits that stand.
 use mathlib.Core.List.{List}
-use mathlib.Core.Path.{◌≡◌, refl, sym, ap, ◌∙◌}
+use mathlib.Core.Path.{◌≡◌, refl, ap, ◌∙◌}
 use Prim.Native.Nat.{ℕ, suc, ◌+◌, ◌-◌, ◌/◌, ◌%◌, ◌≤◌, ◌<◌}
 use native.Mathlib.Omega.{arith}
 use lib.ListN.{length, set, length-set}
 use Rattle.rows.specs.Row.{written_at}
 use Rattle.rows.specs.Written.{Room}
-use Rattle.rows.proofs.Puts.{written_none, written_last}
+use Rattle.rows.proofs.Puts.{written_last}
 use Rattle.decimal.specs.Decimal.{last_digits, decimal, digit_count}
 use Rattle.decimal.proofs.Decimal.{length_last, length_decimal}
 
@@ -38,8 +38,3 @@ module _ {n : ℕ} {d b : List ℕ} {i j rest : ℕ} (w : Spelling n d i b j res
             w.holds ∙ ap (λ k. written_at i (last_digits k rest) b) e ∙ written_last i digits x b (omega (arith, w.upto, w.long))
             ∙ ap (λ k. written_at i digits (set b k x)) f;
       }
-
-  pub spelling_all : j ≤ i → b ≡ written_at i (decimal n) d
-  spelling_all h =
-      let e : j - i ≡ 0 = omega arith in
-      sym (w.holds ∙ ap (λ k. written_at i (last_digits k rest) b) e ∙ written_none i b)

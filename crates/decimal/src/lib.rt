@@ -11,6 +11,7 @@ ghost use Rattle.decimal.specs.Leading.{Leading};
 pub fn digit_count(n: usize) -> usize
     ensures { result ≡ length (decimal n) }
 {
+    // No `ilog10`: its table of powers is read-only memory, which is short.
     let mut count = 1;
     let mut rest = n;
     while 10 <= rest {
@@ -26,11 +27,9 @@ pub fn write_decimal(n: usize, buffer: &mut [u8], at: usize) -> usize
     ensures { Puts (decimal n) at buffer.old buffer.new result }
 {
     let end = at + digit_count(n);
-    let mut i = end;
     let mut rest = n;
-    while at < i {
-        i -= 1;
-        buffer[i] = 48 + (rest % 10) as u8;
+    for i in (at..end).rev() {
+        buffer[i] = b'0' + (rest % 10) as u8;
         rest /= 10;
     }
     end
@@ -40,18 +39,7 @@ pub fn write_decimal(n: usize, buffer: &mut [u8], at: usize) -> usize
 pub fn leading_digits(text: &[u8]) -> usize
     ensures { Leading text.now result }
 {
-    let mut count = 0;
-    while count < text.len() {
-        let c = text[count];
-        if c < b'0' {
-            return count;
-        }
-        if b'9' < c {
-            return count;
-        }
-        count += 1;
-    }
-    count
+    text.iter().take_while(|c| c.is_ascii_digit()).count()
 }
 
 // The number that at most nine digits read as.
@@ -60,10 +48,8 @@ pub fn value_of(digits: &[u8]) -> usize
     ensures { result ≡ read digits.now }
 {
     let mut value = 0;
-    let mut k = 0;
-    while k < digits.len() {
-        value = 10 * value + (digits[k] - b'0') as usize;
-        k += 1;
+    for &d in digits {
+        value = 10 * value + usize::from(d - b'0');
     }
     value
 }

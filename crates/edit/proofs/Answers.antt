@@ -2,8 +2,7 @@
 use mathlib.Core.Path.{◌≡◌, refl}
 use Prim.Native.Nat.{ℕ, zero, suc}
 use native.Mathlib.Omega.{arith}
-use Rattle.edit.specs.Core.{answer_of}
-use Rattle.edit.specs.declared.Answer.TheVariants.{Done}
+use Rattle.edit.specs.Core.{Done, answer_of}
 use Rattle.edit.specs.declared.Counts.{Counts}
 
 -- an answer with numbers was not refused

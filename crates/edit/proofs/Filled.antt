@@ -19,12 +19,11 @@ use Rattle.words.proofs.Middle.{middle_suffix}
 use Rattle.longest.specs.Best.{longest_of, Measures}
 use Rattle.longest.specs.declared.Longest.{Longest}
 use Rattle.seams.proofs.Meets.{edited_short}
-use Rattle.edit.specs.Core.{counts_of, room_refusals}
+use Rattle.edit.specs.Core.{Done, Refused, counts_of, room_refusals}
 use Rattle.edit.specs.Inner.{max_middle, FillsNumbers}
 use Rattle.edit_rows.specs.Rows.{Between}
 use Rattle.seams.specs.Seams.{Accepted, plan_of}
 use Rattle.edit.specs.declared.Counts.{Counts}
-use Rattle.edit.specs.declared.Answer.TheVariants.{Done, Refused}
 use Rattle.seams.specs.declared.Seams.{Seams}
 
 module _ {refusals : List Refusal} {s : List ℕ} {from to : ℕ} {b numbers starts : List ℕ} where

@@ -1,11 +1,20 @@
--- What the call that answers an edit answers and leaves in its rows.
-use Rattle.std.specs.Prelude.{List, [], ◌∷◌, ◌++◌, ◌≡◌, ℕ, zero, suc, length}
-use Rattle.refusals.specs.Refusals.{Refusal, first_of, row_after, too_short, edit_refusals}
+-- What the call that answers an edit answers and leaves in its rows. The answer is read as its numbers, or the number of the refusal alone.
+use Rattle.std.specs.Prelude.{List, [], ◌∷◌, ◌++◌, ◌≡◌, ℕ, zero, suc, length, Result, Ok, Err}
+use Rattle.refusals.specs.Answers.{number_of}
+use Rattle.refusals.specs.Refusals.{Refusal, first_of, unless_refused, too_short, edit_refusals}
+use Rattle.rows.specs.Row.{written}
+use Rattle.refusals.specs.declared.Refusal as call
 use Rattle.words.specs.Edit.{edited, kept, resume, middle_groups}
 use Rattle.words.specs.Tables.{longest, longest_starts}
 use Rattle.edit.specs.declared.Counts.{Counts}
-use Rattle.edit.specs.declared.Answer.{Answer}
-use Rattle.edit.specs.declared.Answer.TheVariants.{Done, Refused}
+
+pub data Answer : Type 0 where
+  Done : Counts → Answer
+  Refused : ℕ → Answer
+
+abbrev pub answer_told : Result Counts call.Refusal → Answer
+answer_told (Ok c) = Done c
+answer_told (Err e) = Refused (number_of e)
 
 -- The numbers of the answer to an accepted edit.
 unfoldable pub counts_of : List ℕ → ℕ → ℕ → List ℕ → Counts
@@ -20,10 +29,8 @@ counts_of s from to b =
 
 -- Refusal 8 for rows of so many entries: the middle groups need one each, and so do the starts.
 abbrev pub room_refusals : List ℕ → ℕ → ℕ → List ℕ → ℕ → ℕ → List Refusal
-room_refusals s from to b room starts =
-    too_short (length (middle_groups s from to b)) room ∷ too_short (length (longest_starts (edited s from to b))) starts ∷ []
+room_refusals s from to b room starts = too_short (length (middle_groups s from to b)) room ∷ too_short (length (longest_starts (edited s from to b))) starts ∷ []
 
--- All refusals of an edit.
 abbrev pub all_refusals : List ℕ → List ℕ → List ℕ → ℕ → ℕ → List ℕ → ℕ → ℕ → List Refusal
 all_refusals s array last from to b room starts = edit_refusals s array last from to b ++ room_refusals s from to b room starts
 
@@ -35,5 +42,5 @@ answer_of (suc k) c = Refused (suc k)
 -- A call with these refusals that writes `out` for the middle groups: its answer and both rows afterwards.
 pub record Fills {A : Type 0} (refusals : List Refusal) (s : List ℕ) (from to : ℕ) (b : List ℕ) (out row row' : List A) (starts starts' : List ℕ) (r : Answer) : Type 0 where
   pub answers : r ≡ answer_of (first_of refusals) (counts_of s from to b)
-  pub middle : row' ≡ row_after (first_of refusals) out row
-  pub places : starts' ≡ row_after (first_of refusals) (longest_starts (edited s from to b)) starts
+  pub middle : row' ≡ unless_refused (first_of refusals) (written out row) row
+  pub places : starts' ≡ unless_refused (first_of refusals) (written (longest_starts (edited s from to b)) starts) starts

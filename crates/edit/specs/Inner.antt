@@ -1,11 +1,9 @@
--- What `fill`, `count_of` and `edit_core::core` are stated by: the answer with the groups as numbers.
+-- What `fill` and `edit_core::core` are stated by: the answer with the groups as numbers.
 use Rattle.std.specs.Prelude.{List, ℕ, ◌+◌}
 use Rattle.refusals.specs.Refusals.{Refusal, max_pattern, max_block}
 use Rattle.words.specs.Edit.{middle_groups, bits}
 use Rattle.words.specs.Factors.{group_numbers}
-use Rattle.edit.specs.Core.{Fills}
-use Rattle.edit.specs.declared.Answer.{Answer}
-use Rattle.edit.specs.declared.Answer.TheVariants.{Done, Refused}
+use Rattle.edit.specs.Core.{Answer, Done, Refused, Fills}
 
 -- No accepted edit has more middle groups: demand 3's bound at the limits.
 abbrev pub max_middle : ℕ

@@ -2,16 +2,17 @@
 // `edit_rows`. The refusals 1 to 5 and the edited pattern are left to `edit_core`, the kind of row that takes the groups to the calls.
 #![tactic(auto)]
 
-ghost use Rattle.std.specs.Prelude.{◌≡◌, ◌*◌, ◌≤◌, min, length};
+ghost use Rattle.std.specs.Prelude.{◌*◌, ◌≤◌, min, length};
 ghost use Rattle.ranks.specs.Inner.{Ranks};
 ghost use Rattle.ranks.specs.Ranks.{ranked};
 ghost use Rattle.seams.specs.Seams.{Accepted};
-ghost use Rattle.edit.specs.Core.{room_refusals};
-ghost use Rattle.edit.specs.Inner.{count_of, max_middle, FillsNumbers};
+ghost use Rattle.edit.specs.Core.{answer_told, room_refusals};
+ghost use Rattle.edit.specs.Inner.{max_middle, FillsNumbers};
 
 use edit_rows::write_rows;
-use refusals::MAX_BLOCK;
+use refusals::{MAX_BLOCK, Refusal};
 use seams::plan;
+use splicing::Edit;
 
 // The most middle groups of an accepted edit: the binary digits of MAX_PATTERN, the longest block, and one.
 pub const MAX_MIDDLE: usize = 15 + MAX_BLOCK + 1;
@@ -26,45 +27,26 @@ pub struct Counts {
     pub starts: usize,
 }
 
-#[derive(Clone, Copy)]
-pub enum Answer {
-    Done(Counts),
-    Refused(u8),
-}
-
-// How many groups an answer says.
-pub fn count_of(a: Answer) -> usize
-    ensures { result ≡ count_of a }
-{
-    match a {
-        Answer::Done(c) => c.groups,
-        Answer::Refused(_) => 0,
-    }
-}
-
 // Measures the result, tests refusal 8 for both rows, and writes them; for `edit_core`.
 pub fn fill(
-    pattern: &[u8],
+    edit: Edit,
     ranks: &[u8],
     table: &[u16],
-    from: usize,
-    to: usize,
-    block: &[u8],
     t: &[u8],
     room: usize,
     numbers: &mut [u16],
     starts: &mut [u16],
-) -> Answer
-    requires { Ranks ranks.now × Accepted (ranked ranks.now pattern.now) table.now from to (ranked ranks.now block.now) (ranked ranks.now t.now) × (3 * min room max_middle ≤ length numbers.old) }
-    ensures { FillsNumbers (room_refusals (ranked ranks.now pattern.now) from to (ranked ranks.now block.now) room (length starts.old)) (ranked ranks.now pattern.now) from to (ranked ranks.now block.now) numbers.old numbers.new starts.old starts.new result }
+) -> Result<Counts, Refusal>
+    requires { Ranks ranks.now × Accepted (ranked ranks.now edit.pattern.now) table.now edit.from edit.to (ranked ranks.now edit.block.now) (ranked ranks.now t.now) × (3 * min room max_middle ≤ length numbers.old) }
+    ensures { FillsNumbers (room_refusals (ranked ranks.now edit.entry.pattern.now) edit.entry.from edit.entry.to (ranked ranks.now edit.entry.block.now) room (length starts.old)) (ranked ranks.now edit.entry.pattern.now) edit.entry.from edit.entry.to (ranked ranks.now edit.entry.block.now) numbers.old numbers.new starts.old starts.new (answer_told result) }
 {
-    let p = plan(pattern, ranks, table, from, to, block, t);
+    let p = plan(edit, ranks, table, t);
     let found = p.found;
     if room < p.groups {
-        return Answer::Refused(8);
+        return Err(Refusal::RowTooShort);
     }
     if starts.len() < found.count {
-        return Answer::Refused(8);
+        return Err(Refusal::RowTooShort);
     }
     write_rows(
         t,
@@ -76,7 +58,7 @@ pub fn fill(
         numbers,
         starts,
     );
-    Answer::Done(Counts {
+    Ok(Counts {
         kept: p.seams.kept,
         resume: p.seams.resume,
         groups: p.groups,

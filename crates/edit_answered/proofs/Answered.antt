@@ -10,10 +10,8 @@ use lib.ListN.{length, take, drop, length-append, length-map}
 use lib.Seq.{take_at, take-append_seam}
 use borrow.Author.Tests.{lt-ltb}
 use Rattle.edit.proofs.Answers.{done_accepted}
-use Rattle.edit.specs.Core.{counts_of, room_refusals, all_refusals, answer_of}
+use Rattle.edit.specs.Core.{Answer, Done, counts_of, room_refusals, all_refusals, answer_of}
 use Rattle.edit.specs.Inner.{count_of, FillsNumbers}
-use Rattle.edit.specs.declared.Answer.{Answer}
-use Rattle.edit.specs.declared.Answer.TheVariants.{Done}
 use Rattle.edit.specs.declared.Counts.{Counts}
 use Rattle.edit_refusal.proofs.Passed.{passed_shape}
 use Rattle.ranks.proofs.Demand.{demand_three_by}

@@ -3,7 +3,7 @@
 #![tactic(auto)]
 
 ghost use Rattle.std.specs.Prelude.{◌*◌, ◌≤◌, min, length};
-ghost use Rattle.edit.specs.Core.{room_refusals};
+ghost use Rattle.edit.specs.Core.{answer_told, room_refusals};
 ghost use Rattle.edit.specs.Inner.{max_middle, FillsNumbers};
 ghost use Rattle.ranks.specs.Inner.{Ranks};
 ghost use Rattle.ranks.specs.Ranks.{ranked};
@@ -11,126 +11,51 @@ ghost use Rattle.refusals.specs.Refusals.{max_pattern};
 ghost use Rattle.seams.specs.Seams.{Accepted};
 ghost use Rattle.words.specs.Edit.{edited};
 
-use edit::Answer;
+use edit::Counts;
 use edit_spliced::answer_in;
-use refusals::MAX_PATTERN;
+use refusals::{MAX_PATTERN, Refusal};
+use splicing::Edit;
 
 // Two lengths of a buffer shorter than the longest pattern.
 const SHORT: usize = 256;
 
 const MEDIUM: usize = 4096;
 
-// The answer to an accepted edit, with a buffer of its own: a short pattern does not pay for the clearing of a long one.
-fn answer_short(
-    pattern: &[u8],
+// The answer to an accepted edit, with a buffer of its own.
+fn answer_with<const SIZE: usize>(
+    edit: Edit,
     ranks: &[u8],
     array: &[u16],
-    from: usize,
-    to: usize,
-    block: &[u8],
     room: usize,
     numbers: &mut [u16],
     starts: &mut [u16],
-) -> Answer
-    requires { Ranks ranks.now × Accepted (ranked ranks.now pattern.now) array.now from to (ranked ranks.now block.now) (edited (ranked ranks.now pattern.now) from to (ranked ranks.now block.now)) × (length (edited pattern.now from to block.now) ≤ 256) × (3 * min room max_middle ≤ length numbers.old) }
-    ensures { FillsNumbers (room_refusals (ranked ranks.now pattern.now) from to (ranked ranks.now block.now) room (length starts.old)) (ranked ranks.now pattern.now) from to (ranked ranks.now block.now) numbers.old numbers.new starts.old starts.new result }
+) -> Result<Counts, Refusal>
+    requires { Ranks ranks.now × Accepted (ranked ranks.now edit.pattern.now) array.now edit.from edit.to (ranked ranks.now edit.block.now) (edited (ranked ranks.now edit.pattern.now) edit.from edit.to (ranked ranks.now edit.block.now)) × (length (edited edit.pattern.now edit.from edit.to edit.block.now) ≤ SIZE) × (SIZE ≤ max_pattern) × (3 * min room max_middle ≤ length numbers.old) }
+    ensures { FillsNumbers (room_refusals (ranked ranks.now edit.entry.pattern.now) edit.entry.from edit.entry.to (ranked ranks.now edit.entry.block.now) room (length starts.old)) (ranked ranks.now edit.entry.pattern.now) edit.entry.from edit.entry.to (ranked ranks.now edit.entry.block.now) numbers.old numbers.new starts.old starts.new (answer_told result) }
 {
-    let mut t = [0u8; SHORT];
-    answer_in(
-        pattern, ranks, array, from, to, block, room, &mut t, numbers, starts,
-    )
-}
-
-// The same for patterns of some length.
-fn answer_medium(
-    pattern: &[u8],
-    ranks: &[u8],
-    array: &[u16],
-    from: usize,
-    to: usize,
-    block: &[u8],
-    room: usize,
-    numbers: &mut [u16],
-    starts: &mut [u16],
-) -> Answer
-    requires { Ranks ranks.now × Accepted (ranked ranks.now pattern.now) array.now from to (ranked ranks.now block.now) (edited (ranked ranks.now pattern.now) from to (ranked ranks.now block.now)) × (length (edited pattern.now from to block.now) ≤ 4096) × (3 * min room max_middle ≤ length numbers.old) }
-    ensures { FillsNumbers (room_refusals (ranked ranks.now pattern.now) from to (ranked ranks.now block.now) room (length starts.old)) (ranked ranks.now pattern.now) from to (ranked ranks.now block.now) numbers.old numbers.new starts.old starts.new result }
-{
-    let mut t = [0u8; MEDIUM];
-    answer_in(
-        pattern, ranks, array, from, to, block, room, &mut t, numbers, starts,
-    )
-}
-
-// The same for all others.
-fn answer_long(
-    pattern: &[u8],
-    ranks: &[u8],
-    array: &[u16],
-    from: usize,
-    to: usize,
-    block: &[u8],
-    room: usize,
-    numbers: &mut [u16],
-    starts: &mut [u16],
-) -> Answer
-    requires { Ranks ranks.now × Accepted (ranked ranks.now pattern.now) array.now from to (ranked ranks.now block.now) (edited (ranked ranks.now pattern.now) from to (ranked ranks.now block.now)) × (length (edited pattern.now from to block.now) ≤ max_pattern) × (3 * min room max_middle ≤ length numbers.old) }
-    ensures { FillsNumbers (room_refusals (ranked ranks.now pattern.now) from to (ranked ranks.now block.now) room (length starts.old)) (ranked ranks.now pattern.now) from to (ranked ranks.now block.now) numbers.old numbers.new starts.old starts.new result }
-{
-    let mut t = [0u8; MAX_PATTERN];
-    answer_in(
-        pattern, ranks, array, from, to, block, room, &mut t, numbers, starts,
-    )
-}
-
-// The same with the shortest buffer that holds the edited pattern, of the two longer ones.
-fn answer_longer(
-    pattern: &[u8],
-    ranks: &[u8],
-    array: &[u16],
-    from: usize,
-    to: usize,
-    block: &[u8],
-    room: usize,
-    numbers: &mut [u16],
-    starts: &mut [u16],
-) -> Answer
-    requires { Ranks ranks.now × Accepted (ranked ranks.now pattern.now) array.now from to (ranked ranks.now block.now) (edited (ranked ranks.now pattern.now) from to (ranked ranks.now block.now)) × (length (edited pattern.now from to block.now) ≤ max_pattern) × (3 * min room max_middle ≤ length numbers.old) }
-    ensures { FillsNumbers (room_refusals (ranked ranks.now pattern.now) from to (ranked ranks.now block.now) room (length starts.old)) (ranked ranks.now pattern.now) from to (ranked ranks.now block.now) numbers.old numbers.new starts.old starts.new result }
-{
-    let m = from + block.len() + (pattern.len() - to);
-    if m <= MEDIUM {
-        return answer_medium(
-            pattern, ranks, array, from, to, block, room, numbers, starts,
-        );
-    }
-    answer_long(
-        pattern, ranks, array, from, to, block, room, numbers, starts,
-    )
+    let mut t = [0u8; SIZE];
+    answer_in(edit, ranks, array, room, &mut t, numbers, starts)
 }
 
 // The answer to an accepted edit, with the shortest of the three buffers: the cost goes with the pattern.
+#[tactic(auto, using(edit_spliced::proofs::Bytes::stretch_inside, edit_spliced::proofs::Bytes::edited_long))]
 pub fn answer(
-    pattern: &[u8],
+    edit: Edit,
     ranks: &[u8],
     array: &[u16],
-    from: usize,
-    to: usize,
-    block: &[u8],
     room: usize,
     numbers: &mut [u16],
     starts: &mut [u16],
-) -> Answer
-    requires { Ranks ranks.now × Accepted (ranked ranks.now pattern.now) array.now from to (ranked ranks.now block.now) (edited (ranked ranks.now pattern.now) from to (ranked ranks.now block.now)) × (length (edited pattern.now from to block.now) ≤ max_pattern) × (3 * min room max_middle ≤ length numbers.old) }
-    ensures { FillsNumbers (room_refusals (ranked ranks.now pattern.now) from to (ranked ranks.now block.now) room (length starts.old)) (ranked ranks.now pattern.now) from to (ranked ranks.now block.now) numbers.old numbers.new starts.old starts.new result }
+) -> Result<Counts, Refusal>
+    requires { Ranks ranks.now × Accepted (ranked ranks.now edit.pattern.now) array.now edit.from edit.to (ranked ranks.now edit.block.now) (edited (ranked ranks.now edit.pattern.now) edit.from edit.to (ranked ranks.now edit.block.now)) × (length (edited edit.pattern.now edit.from edit.to edit.block.now) ≤ max_pattern) × (3 * min room max_middle ≤ length numbers.old) }
+    ensures { FillsNumbers (room_refusals (ranked ranks.now edit.entry.pattern.now) edit.entry.from edit.entry.to (ranked ranks.now edit.entry.block.now) room (length starts.old)) (ranked ranks.now edit.entry.pattern.now) edit.entry.from edit.entry.to (ranked ranks.now edit.entry.block.now) numbers.old numbers.new starts.old starts.new (answer_told result) }
 {
-    let m = from + block.len() + (pattern.len() - to);
+    let m = edit.edited_length();
     if m <= SHORT {
-        return answer_short(
-            pattern, ranks, array, from, to, block, room, numbers, starts,
-        );
+        return answer_with::<SHORT>(edit, ranks, array, room, numbers, starts);
     }
-    answer_longer(
-        pattern, ranks, array, from, to, block, room, numbers, starts,
-    )
+    if m <= MEDIUM {
+        return answer_with::<MEDIUM>(edit, ranks, array, room, numbers, starts);
+    }
+    answer_with::<MAX_PATTERN>(edit, ranks, array, room, numbers, starts)
 }

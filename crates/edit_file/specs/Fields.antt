@@ -1,8 +1,7 @@
 -- What the inner function answers: a number with the byte that closes it.
-use Rattle.std.specs.Prelude.{List, ◌∷◌, ◌++◌, ◌≡◌, ℕ, ◌+◌, length, drop}
+use Rattle.std.specs.Prelude.{List, ◌∷◌, ◌++◌, ◌≡◌, ℕ, ◌+◌, length, drop, Option, Some, None}
 use Rattle.edit_file.specs.EditFile.{Numeral}
-use Rattle.edit_file.specs.declared.Field.{Field}
-use Rattle.edit_file.specs.declared.Field.TheVariants.{Number, Missing}
+use Rattle.edit_file.specs.declared.Closed.{Closed}
 
 -- The text starts with a number and the closing byte; `end` is the place behind that byte.
 pub record Closes (text : List ℕ) (close value end : ℕ) : Type 0 where
@@ -12,6 +11,6 @@ pub record Closes (text : List ℕ) (close value end : ℕ) : Type 0 where
   pub place : end ≡ length spelled + 1
 
 -- The right answer: such a number, or that the text starts with none.
-abbrev pub FieldOf : List ℕ → ℕ → Field → Type 0
-FieldOf text close (Number f) = Closes text close f.value f.end
-FieldOf text close Missing = (cs : List ℕ) (n : ℕ) (rest : List ℕ) → Numeral cs n → text ≡ cs ++ (close ∷ rest) → ⊥
+abbrev pub FieldOf : List ℕ → ℕ → Option Closed → Type 0
+FieldOf text close (Some f) = Closes text close f.value f.end
+FieldOf text close None = (cs : List ℕ) (n : ℕ) (rest : List ℕ) → Numeral cs n → text ≡ cs ++ (close ∷ rest) → ⊥

@@ -1,24 +1,19 @@
 // The parser of the file edit.csv: the line `from,to`, then one line of two decimal numbers of one to five digits.
 #![tactic(auto)]
 
-ghost use Rattle.std.specs.Prelude.{◌<◌};
-ghost use Rattle.edit_file.specs.EditFile.{Answers};
+ghost use Rattle.std.specs.Prelude.{◌≡◌, ◌<◌, ◌≤◌, length, take};
+ghost use Rattle.words.specs.Order.{same};
+ghost use Rattle.edit_file.specs.EditFile.{header, Answers};
 ghost use Rattle.edit_file.specs.Fields.{FieldOf};
 
-use comparing::agree;
+use comparing::{agree, agree_bytes};
 use decimal::{leading_digits, value_of};
 
 // The stretch that an edit replaces, as the file says it.
-#[derive(Drop)]
+#[derive(Clone, Copy)]
 pub struct Stretch {
     pub from: usize,
     pub to: usize,
-}
-
-#[derive(Drop)]
-pub enum Parsed {
-    Edit(Stretch),
-    Malformed,
 }
 
 const HEADER: [u8; 9] = *b"from,to\r\n";
@@ -26,67 +21,67 @@ const HEADER: [u8; 9] = *b"from,to\r\n";
 const LINE_FEED: [u8; 1] = *b"\n";
 
 // A number, and the place behind the byte that closes it.
-#[derive(Drop)]
+#[derive(Clone, Copy)]
 struct Closed {
     value: usize,
     end: usize,
 }
 
-#[derive(Drop)]
-enum Field {
-    Number(Closed),
-    Missing,
-}
-
 // The number that a text starts with, where this byte, which is no digit, closes it.
-fn first_field(text: &[u8], close: u8) -> Field
+fn first_field(text: &[u8], close: u8) -> Option<Closed>
     requires { close < 48 }
     ensures { FieldOf text.now close result }
 {
     let count = leading_digits(text);
     if count == 0 {
-        return Field::Missing;
+        return None;
     }
     if 5 < count {
-        return Field::Missing;
+        return None;
     }
     if text.len() <= count {
-        return Field::Missing;
+        return None;
     }
     if text[count] != close {
-        return Field::Missing;
+        return None;
     }
-    Field::Number(Closed {
+    Some(Closed {
         value: value_of(&text[..count]),
         end: count + 1,
     })
 }
 
+// Whether a file begins with the header, byte by byte: compared as a slice it would stand in read-only memory, which is short.
+fn has_header(bytes: &[u8]) -> bool
+    requires { length header ≤ length bytes.now }
+    ensures { result ≡ same (take (length header) bytes.now) header }
+{
+    let size = HEADER.len();
+    if agree_bytes(&bytes[..size], 0, &HEADER, 0, 0, size) < size {
+        return false;
+    }
+    true
+}
+
 // The two numbers that the file says.
-pub fn parse(bytes: &[u8]) -> Parsed
+pub fn parse(bytes: &[u8]) -> Option<Stretch>
     ensures { Answers bytes.now result }
 {
     let size = HEADER.len();
     if bytes.len() < size {
-        return Parsed::Malformed;
+        return None;
     }
-    if !agree(&bytes[..size], &HEADER) {
-        return Parsed::Malformed;
+    if !has_header(bytes) {
+        return None;
     }
     let line = &bytes[size..];
-    let Field::Number(first) = first_field(line, b',') else {
-        return Parsed::Malformed;
-    };
-    let second_at = first.end;
-    let rest = &line[second_at..];
-    let Field::Number(second) = first_field(rest, b'\r') else {
-        return Parsed::Malformed;
-    };
-    let end = second.end;
-    if !agree(&rest[end..], &LINE_FEED) {
-        return Parsed::Malformed;
+    let first = first_field(line, b',')?;
+    let rest = &line[first.end..];
+    let second = first_field(rest, b'\r')?;
+    if !agree(&rest[second.end..], &LINE_FEED) {
+        return None;
     }
-    Parsed::Edit(Stretch {
+    Some(Stretch {
         from: first.value,
         to: second.value,
     })

@@ -1,7 +1,6 @@
 -- The answer to an edit as one flat struct, for the calls that C and Rust link.
 use Rattle.std.specs.Prelude.{◌≡◌}
-use Rattle.edit.specs.declared.Answer.{Answer}
-use Rattle.edit.specs.declared.Answer.TheVariants.{Done, Refused}
+use Rattle.edit.specs.Core.{Answer, Done, Refused}
 use Rattle.edit_flat.specs.declared.EditAnswer.{EditAnswer}
 
 -- Each case of the answer: its numbers and refusal 0, or the refusal's number and zeros.

@@ -1,4 +1,4 @@
--- Which of the refusals 1 to 5 is the first: a law for each way through the tests, and what holds of an edit that passes them all.
+-- Which of the refusals 1 to 5 is the first: a law for each way through the tests.
 use mathlib.Core.Bool.{true, false}
 use mathlib.Core.List.{List, [], ◌∷◌}
 use mathlib.Core.Path.{◌≡◌, refl, sym, ◌∙◌}
@@ -8,6 +8,7 @@ use lib.ListN.{length, take}
 use borrow.Author.Tests.{lt-ltb, le-ltb}
 use Rattle.refusals.specs.Refusals.{first_of, max_pattern, max_block, block_too_long, edited_too_long, not_table, edit_refusals}
 use Rattle.refusals.proofs.First.{first_holds, first_passes}
+use Rattle.ranks.proofs.Ranked.{length_ranked}
 use Rattle.words.specs.Edit.{edited}
 use Rattle.words.specs.Order.{same}
 use Rattle.words.specs.Tables.{lyndon_array, last_factors}
@@ -96,3 +97,6 @@ module _ (s array last : List ℕ) (from to : ℕ) (b : List ℕ) where
     pub refuses_none : length s ≤ length last → same (take (length s) last) (last_factors s) ≡ true → 0 ≡ refused
     refuses_none k f =
         sym (past_array ∙ first_passes (not_table (last_factors s) last) [] (row_is (last_factors s) last (length s) (last_factors_length s) k f))
+
+-- each way through the tests, by the lengths of the bytes
+pub ruleset ways_through = (refuses_pattern, refuses_backward, refuses_end, refuses_block, refuses_edited, refuses_array_short, refuses_array, refuses_last_short, refuses_last, refuses_none, length_ranked, length_edited)

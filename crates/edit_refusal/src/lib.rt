@@ -4,53 +4,48 @@
 ghost use Rattle.std.specs.Prelude.{◌≡◌};
 ghost use Rattle.ranks.specs.Inner.{Ranks};
 ghost use Rattle.ranks.specs.Ranks.{ranked};
+ghost use Rattle.refusals.specs.Answers.{refusal_of};
 ghost use Rattle.refusals.specs.Refusals.{first_of, edit_refusals};
 
 use prefix_testing::is_last_factors;
 use reach_testing::is_lyndon_array;
-use refusals::{MAX_BLOCK, MAX_PATTERN};
+use refusals::{MAX_BLOCK, MAX_PATTERN, Refusal};
+use splicing::Edit;
 
-// The number of the first of the refusals 1 to 5 that holds, and 0 where none does.
-pub fn refusal(
-    pattern: &[u8],
-    ranks: &[u8],
-    array: &[u16],
-    last: &[u16],
-    from: usize,
-    to: usize,
-    block: &[u8],
-) -> u8
+// The first of the refusals 1 to 5 that holds, if one does.
+#[tactic(auto, using(crate::proofs::Refused::ways_through))]
+pub fn refusal(edit: Edit, ranks: &[u8], array: &[u16], last: &[u16]) -> Result<(), Refusal>
     requires { Ranks ranks.now }
-    ensures { result ≡ first_of (edit_refusals (ranked ranks.now pattern.now) array.now last.now from to (ranked ranks.now block.now)) }
+    ensures { refusal_of result ≡ first_of (edit_refusals (ranked ranks.now edit.entry.pattern.now) array.now last.now edit.entry.from edit.entry.to (ranked ranks.now edit.entry.block.now)) }
 {
-    let n = pattern.len();
+    let n = edit.pattern.len();
     if MAX_PATTERN < n {
-        return 1;
+        return Err(Refusal::PatternTooLong);
     }
-    if to < from {
-        return 2;
+    if edit.to < edit.from {
+        return Err(Refusal::PastEnd);
     }
-    if n < to {
-        return 2;
+    if n < edit.to {
+        return Err(Refusal::PastEnd);
     }
-    if MAX_BLOCK < block.len() {
-        return 3;
+    if MAX_BLOCK < edit.block.len() {
+        return Err(Refusal::BlockTooLong);
     }
-    let m = from + block.len() + (n - to);
+    let m = edit.edited_length();
     if MAX_PATTERN < m {
-        return 4;
+        return Err(Refusal::EditedTooLong);
     }
     if array.len() < n {
-        return 5;
+        return Err(Refusal::NotTheTable);
     }
-    if !is_lyndon_array(pattern, ranks, array) {
-        return 5;
+    if !is_lyndon_array(edit.pattern, ranks, array) {
+        return Err(Refusal::NotTheTable);
     }
     if last.len() < n {
-        return 5;
+        return Err(Refusal::NotTheTable);
     }
-    if !is_last_factors(pattern, ranks, last) {
-        return 5;
+    if !is_last_factors(edit.pattern, ranks, last) {
+        return Err(Refusal::NotTheTable);
     }
-    0
+    Ok(())
 }

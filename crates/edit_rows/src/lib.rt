@@ -14,7 +14,7 @@ ghost use Rattle.edit_rows.specs.Rows.{Between, WritesMiddle};
 use factoring::{fill_groups, write_group};
 use longest::Longest;
 use longest_writing::{write_run, write_starts};
-use scan::next_group;
+use scan::groups;
 
 // Writes the middle groups of t, which ends where the middle does, and the starts of those of its factors that have the length `size`, from place
 // `at` of their row on; answers the place after them.
@@ -32,15 +32,12 @@ fn write_middle(
 {
     let mut k = 0;
     let mut next = at;
-    let mut i = end;
-    while i < t.len() {
-        let g = next_group(t, ranks, i);
-        write_group(numbers, k, i, g.length, g.power);
+    for g in groups(t, ranks, end) {
+        write_group(numbers, k, g.start, g.length, g.power);
         k += 3;
         if g.length == size {
-            next = write_run(starts, next, i, g.length, g.power);
+            next = write_run(starts, next, g.start, g.length, g.power);
         }
-        i += g.power * g.length;
     }
     next
 }

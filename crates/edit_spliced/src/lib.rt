@@ -2,44 +2,32 @@
 #![tactic(auto)]
 
 ghost use Rattle.std.specs.Prelude.{◌*◌, ◌≤◌, min, length};
-ghost use Rattle.edit.specs.Core.{room_refusals};
+ghost use Rattle.edit.specs.Core.{answer_told, room_refusals};
 ghost use Rattle.edit.specs.Inner.{max_middle, FillsNumbers};
 ghost use Rattle.ranks.specs.Inner.{Ranks};
 ghost use Rattle.ranks.specs.Ranks.{ranked};
 ghost use Rattle.seams.specs.Seams.{Accepted};
 ghost use Rattle.words.specs.Edit.{edited};
 
-use edit::{Answer, fill};
-use splicing::splice;
+use edit::{Counts, fill};
+use refusals::Refusal;
+use splicing::{Edit, splice};
 
 // The answer to an accepted edit, with a buffer for the edited pattern.
+#[tactic(auto, using(crate::proofs::Bytes::stretch_inside, crate::proofs::Bytes::edited_long))]
 pub fn answer_in(
-    pattern: &[u8],
+    edit: Edit,
     ranks: &[u8],
     array: &[u16],
-    from: usize,
-    to: usize,
-    block: &[u8],
     room: usize,
     t: &mut [u8],
     numbers: &mut [u16],
     starts: &mut [u16],
-) -> Answer
-    requires { Ranks ranks.now × Accepted (ranked ranks.now pattern.now) array.now from to (ranked ranks.now block.now) (edited (ranked ranks.now pattern.now) from to (ranked ranks.now block.now)) × (length (edited pattern.now from to block.now) ≤ length t.old) × (3 * min room max_middle ≤ length numbers.old) }
-    ensures { FillsNumbers (room_refusals (ranked ranks.now pattern.now) from to (ranked ranks.now block.now) room (length starts.old)) (ranked ranks.now pattern.now) from to (ranked ranks.now block.now) numbers.old numbers.new starts.old starts.new result }
+) -> Result<Counts, Refusal>
+    requires { Ranks ranks.now × Accepted (ranked ranks.now edit.pattern.now) array.now edit.from edit.to (ranked ranks.now edit.block.now) (edited (ranked ranks.now edit.pattern.now) edit.from edit.to (ranked ranks.now edit.block.now)) × (length (edited edit.pattern.now edit.from edit.to edit.block.now) ≤ length t.old) × (3 * min room max_middle ≤ length numbers.old) }
+    ensures { FillsNumbers (room_refusals (ranked ranks.now edit.entry.pattern.now) edit.entry.from edit.entry.to (ranked ranks.now edit.entry.block.now) room (length starts.old)) (ranked ranks.now edit.entry.pattern.now) edit.entry.from edit.entry.to (ranked ranks.now edit.entry.block.now) numbers.old numbers.new starts.old starts.new (answer_told result) }
 {
-    splice(pattern, from, to, block, t);
-    let m = from + block.len() + (pattern.len() - to);
-    fill(
-        pattern,
-        ranks,
-        array,
-        from,
-        to,
-        block,
-        &t[..m],
-        room,
-        numbers,
-        starts,
-    )
+    splice(edit, t);
+    let m = edit.edited_length();
+    fill(edit, ranks, array, &t[..m], room, numbers, starts)
 }

@@ -20,17 +20,14 @@ const BLOCK: &str = "block.bin";
 
 const EDIT: &str = "edit.csv";
 
-// Reads a file's first bytes, as many as there is room for.
+// Reads a file's first bytes, as many as there is room for. One that can't be read is empty: no Option.
 fn read_file(files: &impl Files, path: &str, bytes: &mut [u8]) -> usize
     ensures { (result ≤ length bytes.new) × (result ≡ length (take result bytes.new)) }
 {
-    match File::open(files, path) {
-        Ok(mut file) => match read_full(&mut file, bytes) {
-            Ok(n) => n,
-            Err(_) => 0,
-        },
-        Err(_) => 0,
-    }
+    let Ok(mut file) = File::open(files, path) else {
+        return 0;
+    };
+    read_full(&mut file, bytes).unwrap_or(0)
 }
 
 fn main(rt: HostRuntime) -> ExitCode {

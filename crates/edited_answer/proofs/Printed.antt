@@ -2,14 +2,12 @@
 use mathlib.Core.Bool.{not}
 use mathlib.Core.List.{List, [], ◌∷◌}
 use mathlib.Core.Path.{◌≡◌, refl, sym, ap, ◌∙◌}
-use Prim.Native.Nat.{ℕ, zero, suc, ◌≤◌, ◌<◌}
+use Prim.Native.Nat.{ℕ, zero, suc, ◌≤◌}
 use native.Mathlib.Omega.{arith}
 use lib.ListN.{length, replicate, length-replicate}
 use Rattle.edit.proofs.Answers.{done_accepted}
-use Rattle.edit.specs.Core.{room_refusals, all_refusals, answer_of, counts_of}
+use Rattle.edit.specs.Core.{Answer, Done, Refused, room_refusals, all_refusals, answer_of, counts_of}
 use Rattle.edit.specs.Inner.{max_middle, FillsNumbers}
-use Rattle.edit.specs.declared.Answer.{Answer}
-use Rattle.edit.specs.declared.Answer.TheVariants.{Done, Refused}
 use Rattle.edit.specs.declared.Counts.{Counts}
 use Rattle.lyndon_tables.specs.Calls.{ArrayMade, LastFactorsMade}
 use Rattle.edit_refusal.proofs.Passed.{passed_shape}
@@ -18,10 +16,8 @@ use Rattle.ranks.specs.Ranks.{Bytes, is_order, byte_order, ranked}
 use Rattle.ranks.proofs.Marks.{byte_order_lem}
 use Rattle.ranks.proofs.Ranked.{byte_ranked, written_byte_order}
 use Rattle.refusals.proofs.First.{First, first_zero, first_passes}
-use Rattle.refusals.specs.Filled.{Fills}
+use Rattle.refusals.specs.Filled.{Filled, Fills}
 use Rattle.refusals.specs.Refusals.{Refusal, edit_refusals, first_of, not_order, pattern_too_long, too_short, max_pattern, no_stretch, block_too_long, edited_too_long}
-use Rattle.refusals.specs.declared.Filled.{Filled}
-use Rattle.text.proofs.Lengths.{refusal_room}
 use Rattle.text_lines.proofs.Lines.{listing_room}
 use Rattle.text.specs.Inner.{max_listing}
 use Rattle.text.specs.Listing.{edited_text, refusal_text, printed}
@@ -32,20 +28,16 @@ use Rattle.words.proofs.Tables.{lyndon_array_length, last_factors_length}
 use Rattle.words.specs.Edit.{edited}
 use Rattle.words.specs.Tables.{lyndon_array, last_factors}
 use Rattle.edited_answer.specs.Answer.{edit_output}
-use Rattle.edited_answer.specs.Refusal.{refusal_in}
 use Rattle.edited_answer.proofs.Settled.{right, settled}
 
-pub line_room : (number : ℕ) (d : List ℕ) → number < 256 → max_listing ≤ length d → Room (refusal_text number) 0 d
-line_room number d l h = omega (arith, refusal_room number (omega arith))
-
 -- an answer of this number that is a refusal
-line_printed : (m : ℕ) (c : Counts) (text : List ℕ) {r : Answer} {k : ℕ} → r ≡ answer_of m c → r ≡ Refused k → printed m text ≡ refusal_text (refusal_in r)
-line_printed zero c text {r} {k} e q = absurd (omega (arith, ap is_done (sym e ∙ q)))
+line_printed : (m : ℕ) (c : Counts) (text : List ℕ) {k : ℕ} → Refused k ≡ answer_of m c → printed m text ≡ refusal_text k
+line_printed zero c text e = absurd (omega (arith, ap is_done e))
   where
     is_done : Answer → ℕ
     is_done (Done c) = 1
     is_done (Refused k) = 0
-line_printed (suc m) c text e q = ap (λ x. refusal_text (refusal_in x)) (sym e)
+line_printed (suc m) c text {k} e = let q : suc m ≡ k = cc in ap refusal_text q
 
 pub order_filled : {order : List ℕ} → order ≡ written byte_order (replicate 256 0) → order ≡ byte_order
 order_filled e = e ∙ written_byte_order (replicate 256 0) (length-replicate {A = ℕ} 256 0)
@@ -97,10 +89,9 @@ module _ (s order : List ℕ) {a₀ array : List ℕ} {ra : Filled} {l₀ last :
       e.answers
       ∙ ap (λ k. answer_of k (counts_of s from to b)) (settled s array last from to b room starts h tables middle_room starts_room)
 
-  pub refused_output : {k m n : ℕ} {d d' : List ℕ} → r ≡ Refused k → m ≡ refusal_in r → Puts (refusal_text m) 0 d d' n
-      → Puts (edit_output s from to b) 0 d d' n
+  pub refused_output : {k n : ℕ} {d d' : List ℕ} → r ≡ Refused k → Puts (refusal_text k) 0 d d' n → Puts (edit_output s from to b) 0 d d' n
   unfolding edit_output
-  refused_output q i p = rw (line_printed number (counts_of s from to b) (edited_text s from to b) answers q, ← i) p
+  refused_output q p = rw (line_printed number (counts_of s from to b) (edited_text s from to b) (sym q ∙ answers)) p
 
   pub edited_output : {c : Counts} {n : ℕ} {d d' : List ℕ} → r ≡ Done c → Puts (edited_text s from to b) 0 d d' n → Puts (edit_output s from to b) 0 d d' n
   unfolding edit_output

@@ -13,8 +13,7 @@ use Rattle.edit.specs.Inner.{max_middle}
 use Rattle.edit_refusal.proofs.Passed.{passed_shape}
 use Rattle.refusals.proofs.First.{first_earlier, first_later, First, first_is, first_passes, not_long, not_short, table_right}
 use Rattle.edit_refusal.proofs.Refused.{Shaped}
-use Rattle.refusals.specs.Filled.{Fills}
-use Rattle.refusals.specs.declared.Filled.{Filled}
+use Rattle.refusals.specs.Filled.{Filled, Fills}
 use Rattle.refusals.specs.Refusals.{edit_refusals, Refusal, first_of, row_after, max_pattern, pattern_too_long, no_stretch, block_too_long, edited_too_long, not_table, too_short}
 use Rattle.words.proofs.Bounded.{length_table}
 use Rattle.words.proofs.Edit.{length_edited}

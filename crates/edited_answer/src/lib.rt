@@ -2,31 +2,21 @@
 // here and the rows hold every answer, so that only 2, 3 and 4 refuse the edit.
 #![tactic(auto)]
 
-ghost use Rattle.std.specs.Prelude.{◌≤◌, ◌≡◌, length};
+ghost use Rattle.std.specs.Prelude.{◌≤◌, length};
 ghost use Rattle.refusals.specs.Refusals.{max_pattern};
 ghost use Rattle.rows.specs.Written.{Puts};
 ghost use Rattle.text.specs.Inner.{max_listing};
 ghost use Rattle.edited_answer.specs.Answer.{edit_output};
-ghost use Rattle.edited_answer.specs.Refusal.{refusal_in};
 
-use edit::{Answer, MAX_MIDDLE};
+use edit::MAX_MIDDLE;
 use edit_core::core;
 use edited_text::write_edited;
 use lyndon_tables::{last_factors, lyndon_array};
 use order_bytes::fill_byte_order;
 use refusals::MAX_PATTERN;
+use splicing::Edit;
 use symbols::ORDER;
 use text_writers::write_refusal;
-
-// The number of the refusal; 0 of an answer, which is not asked for.
-fn refusal_of(answer: Answer) -> u8
-    ensures { result ≡ refusal_in answer }
-{
-    match answer {
-        Answer::Done(_) => 0,
-        Answer::Refused(number) => number,
-    }
-}
 
 // Writes all that is printed for an edit to the front of a buffer that holds every listing. The answer tells whether the edit is accepted; the
 // groups of the whole edited pattern are read off that pattern.
@@ -37,9 +27,10 @@ pub fn write_answer(pattern: &[u8], from: usize, to: usize, block: &[u8], text: 
     let mut order = [0u8; ORDER];
     fill_byte_order(&mut order);
     let mut array = [0u16; MAX_PATTERN];
-    lyndon_array(pattern, &order, &mut array);
+    // no table is refused, nor is the answer by anything but 2, 3 and 4
+    let _ = lyndon_array(pattern, &order, &mut array);
     let mut last = [0u16; MAX_PATTERN];
-    last_factors(pattern, &order, &mut last);
+    let _ = last_factors(pattern, &order, &mut last);
     let mut middle = [0u16; 3 * MAX_MIDDLE];
     let mut starts = [0u16; MAX_PATTERN];
     let answer = core(
@@ -54,8 +45,14 @@ pub fn write_answer(pattern: &[u8], from: usize, to: usize, block: &[u8], text: 
         &mut middle,
         &mut starts,
     );
-    let Answer::Done(_) = answer else {
-        return write_refusal(refusal_of(answer) as usize, text);
+    let Ok(_) = answer else {
+        return write_refusal(answer.unwrap_err(), text);
     };
-    write_edited(pattern, from, to, block, text)
+    let edit = Edit {
+        pattern,
+        from,
+        to,
+        block,
+    };
+    write_edited(edit, text)
 }

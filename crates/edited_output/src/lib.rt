@@ -6,23 +6,22 @@ ghost use Rattle.std.specs.Prelude.{◌≤◌, length};
 ghost use Rattle.text.specs.Inner.{max_listing};
 ghost use Rattle.edited_output.specs.Output.{Prints};
 
-use edit_file::{Parsed, parse};
+use edit_file::parse;
 use edited_answer::write_answer;
-use refusals::MAX_PATTERN;
+use refusals::{MAX_PATTERN, Refusal};
 use text_writers::write_refusal;
 
 // Writes all that is printed for the contents of the three files to the front of such a buffer.
+#[tactic(auto, using(text::proofs::Lengths::refusal_room))]
 pub fn write_output(pattern: &[u8], block: &[u8], csv: &[u8], text: &mut [u8]) -> usize
     requires { max_listing ≤ length text.old }
     ensures { Prints pattern.now block.now csv.now text.old text.new result }
 {
     if MAX_PATTERN < pattern.len() {
-        return write_refusal(1, text);
+        return write_refusal(Refusal::PatternTooLong, text);
     }
-    let Parsed::Edit(stretch) = parse(csv) else {
-        return write_refusal(2, text);
+    let Some(stretch) = parse(csv) else {
+        return write_refusal(Refusal::PastEnd, text);
     };
-    let from = stretch.from;
-    let to = stretch.to;
-    write_answer(pattern, from, to, block, text)
+    write_answer(pattern, stretch.from, stretch.to, block, text)
 }

@@ -9,24 +9,18 @@ ghost use Rattle.text.specs.Listing.{edited_text};
 ghost use Rattle.words.specs.Edit.{edited};
 
 use refusals::MAX_PATTERN;
-use splicing::splice;
+use splicing::{Edit, splice};
 use text_lines::write_text;
 
 // Writes the edited listing to the front of the buffer, and answers its length.
-pub fn write_edited(
-    pattern: &[u8],
-    from: usize,
-    to: usize,
-    block: &[u8],
-    buffer: &mut [u8],
-) -> usize
-    requires { (from ≤ to) × (to ≤ length pattern.now) × (length (edited pattern.now from to block.now) ≤ max_pattern)
-        × Room (edited_text pattern.now from to block.now) 0 buffer.old }
-    ensures { Puts (edited_text pattern.now from to block.now) 0 buffer.old buffer.new result }
+pub fn write_edited(edit: Edit, buffer: &mut [u8]) -> usize
+    requires { (edit.from ≤ edit.to) × (edit.to ≤ length edit.pattern.now) × (length (edited edit.pattern.now edit.from edit.to edit.block.now) ≤ max_pattern)
+        × Room (edited_text edit.pattern.now edit.from edit.to edit.block.now) 0 buffer.old }
+    ensures { Puts (edited_text edit.entry.pattern.now edit.entry.from edit.entry.to edit.entry.block.now) 0 buffer.old buffer.new result }
 {
     let mut t = [0u8; MAX_PATTERN];
-    splice(pattern, from, to, block, &mut t);
-    let m = from + block.len() + (pattern.len() - to);
+    splice(edit, &mut t);
+    let m = edit.edited_length();
     // no ranks stand for byte order
-    write_text(&t[..m], &pattern[..0], buffer)
+    write_text(&t[..m], &edit.pattern[..0], buffer)
 }

@@ -1,22 +1,52 @@
--- Entries that are put by in a block of their own, one by one, before they are copied.
-use mathlib.Core.List.{List}
-use mathlib.Core.Logic.{◌⊎◌, inl, inr}
-use mathlib.Core.Path.{◌≡◌, ap, ◌∙◌}
-use Prim.Native.Nat.{ℕ, ◌+◌, ◌-◌, ◌≤◌, ◌<◌}
+-- Sixteen entries that stand before a place, copied to it.
+use mathlib.Core.List.{List, ◌++◌}
+use mathlib.Core.Path.{◌≡◌, ◌∙◌}
+use Prim.Native.Nat.{ℕ, ◌+◌, ◌-◌, ◌≤◌}
 use native.Mathlib.Omega.{arith}
-use lib.ListN.{length, set, get_or}
-use Rattle.words.proofs.Bounded.{le_cases}
-use Rattle.rows.proofs.Fill.{set_entry}
-use Rattle.agreeing.specs.Agrees.{Agrees}
+use lib.ListN.{length, take, drop, get_or, length-append, length-take, length-drop, get_or-append}
+use lib.Seq.{get_or-take, get_or-drop, get_or-append-add}
+use Rattle.rows.specs.Filled.{Filled}
 
-pub put_one : {block row : List ℕ} {from : ℕ} (k : ℕ) → Agrees block 0 row from k → k < length block → Agrees (set block k (get_or row (from + k) 0)) 0 row from (k + 1)
-put_one {block} {row} {from} k g l = record { at = λ t h. go t (le_cases {a = t} {b = k} (omega arith)) }
-  where
-    go : (t : ℕ) → (t ≡ k) ⊎ (t < k) → get_or (set block k (get_or row (from + k) 0)) (0 + t) 0 ≡ get_or row (from + t) 0
-    go t (inl e) = set_entry block k (get_or row (from + k) 0) (0 + t) (get_or row (from + t) 0) l (λ q. rw e) (λ q. absurd (q (omega arith)))
-    go t (inr h) = set_entry block k (get_or row (from + k) 0) (0 + t) (get_or row (from + t) 0) l (λ q. absurd (omega arith)) (λ q. g.at t h)
+module _ (d : List ℕ) (at back : ℕ) (h : 16 ≤ back) (l : back ≤ at) (room : at + 16 ≤ length d) where
+  abbrev first : List ℕ
+  first = take at d
 
-pub put_back : {block row : List ℕ} (at back n k : ℕ) → back ≤ at → Agrees block 0 row (at - back) n → k < n → get_or block k 0 ≡ get_or row (at + k - back) 0
-put_back {block} {row} at back n k h g l =
-    let e : at - back + k ≡ at + k - back = omega arith in
-    ap (λ u. get_or block u 0) {x = k} {y = 0 + k} (omega arith) ∙ g.at k l ∙ ap (λ u. get_or row u 0) e
+  abbrev block : List ℕ
+  block = take 16 (drop (at - back) first)
+
+  abbrev rest : List ℕ
+  rest = drop 16 (drop at d)
+
+  first_size : length first ≡ at
+  first_size = omega (arith, length-take at d)
+
+  block_size : length block ≡ 16
+  block_size = omega (arith, length-take 16 (drop (at - back) first), length-drop (at - back) first, first_size)
+
+  copied : Filled (λ k. get_or d (k - back) 0) (at + 16) d (first ++ (block ++ rest)) at (at + 16)
+  copied =
+      record {
+        size =
+            omega (arith, length-append first (block ++ rest), length-append block rest, first_size, block_size, length-drop 16 (drop at d), length-drop at d);
+        inside =
+            λ k a b.
+            let p : length first + (k - at) ≡ k = omega (arith, first_size) in
+            let q : at - back + (k - at) ≡ k - back = omega arith in
+            rw p at (get_or-append-add first (block ++ rest) (k - at) 0) ∙ get_or-append block rest 0 (k - at) (omega (arith, block_size))
+            ∙ get_or-take 16 (drop (at - back) first) (k - at) 0 (omega arith) ∙ get_or-drop (at - back) first (k - at) 0
+            ∙ rw q (get_or-take at d (k - back) 0 (omega arith));
+        before = λ k a. get_or-append first (block ++ rest) 0 k (omega (arith, first_size)) ∙ get_or-take at d k 0 a;
+        past =
+            λ k a.
+            let p : length first + (k - at) ≡ k = omega (arith, first_size) in
+            let q : length block + (k - at - 16) ≡ k - at = omega (arith, block_size) in
+            let r : at + (16 + (k - at - 16)) ≡ k = omega arith in
+            rw p at (get_or-append-add first (block ++ rest) (k - at) 0) ∙ rw q at (get_or-append-add block rest (k - at - 16) 0)
+            ∙ get_or-drop 16 (drop at d) (k - at - 16) 0 ∙ get_or-drop at d (16 + (k - at - 16)) 0 ∙ rw r;
+      }
+
+  pub block_copied : {a b x : List ℕ} → a ≡ take at d → b ≡ drop at d → x ≡ take (at - back + 16 - (at - back)) (drop (at - back) a)
+      → Filled (λ k. get_or d (k - back) 0) (at + 16) d (a ++ (x ++ drop 16 b)) at (at + 16)
+  block_copied p q r =
+      let e : at - back + 16 - (at - back) ≡ 16 = omega arith in
+      rw (r, e, p, q) copied

@@ -25,19 +25,14 @@ pub fn write_lengths(table: &mut [u16], i: usize, at: usize)
     }
 }
 
-// Copies sixteen entries to `at` on.
+// Copies sixteen entries from `back` places before `at` to `at` on.
 pub fn copy_entries(table: &mut [u16], at: usize, back: usize)
     requires { (16 ≤ back) × (back ≤ at) × (at + 16 ≤ length table.old) }
     ensures { Filled (λ k. get_or table.old (k - back) 0) (at + 16) table.old table.new at (at + 16) }
 {
+    let (before, rest) = table.split_at_mut(at);
     let from = at - back;
-    let mut block = [0u16; 16];
-    for k in 0..16 {
-        block[k] = table[from + k];
-    }
-    for k in 0..16 {
-        table[at + k] = block[k];
-    }
+    rest[..16].copy_from_slice(&before[from..from + 16]);
 }
 
 // Whether the sixteen entries from `at` on are those of a word that grows by each byte from i on; entries have sixteen bits.
@@ -59,6 +54,7 @@ pub fn are_lengths(table: &[u16], i: usize, at: usize) -> bool
 }
 
 // Whether the sixteen entries from `from` and from `at` on are the same.
+// It has a twin for bytes, `agree_block`: one for both would tell of the type's own equality, from which each caller would have to come back to numbers.
 pub fn same_entries(table: &[u16], from: usize, at: usize) -> bool
     requires { (from + 16 ≤ length table.now) × (at + 16 ≤ length table.now) }
     ensures { result ≡ true → Agrees table.now from table.now at 16 }

@@ -9,21 +9,14 @@ ghost use Rattle.rows.specs.Row.{written};
 ghost use Rattle.words.specs.Factors.{factors, group_numbers};
 ghost use Rattle.words.specs.Tables.{last_length, suffix_groups};
 
-use scan::next_group;
+use scan::groups;
 
 // The number of groups from a place on.
 pub fn count_groups(s: &[u8], ranks: &[u8], from: usize) -> usize
     requires { Ranks ranks.now × (from ≤ length s.now) }
     ensures { result ≡ length (suffix_groups (ranked ranks.now s.now) from) }
 {
-    let mut count = 0;
-    let mut i = from;
-    while i < s.len() {
-        let g = next_group(s, ranks, i);
-        count += 1;
-        i += g.power * g.length;
-    }
-    count
+    groups(s, ranks, from).count()
 }
 
 // Writes a group to three entries of a row.
@@ -42,12 +35,9 @@ pub fn fill_groups(s: &[u8], ranks: &[u8], from: usize, row: &mut [u16]) -> usiz
     ensures { (result ≡ length (suffix_groups (ranked ranks.now s.now) from)) × (row.new ≡ written (group_numbers (suffix_groups (ranked ranks.now s.now) from)) row.old) }
 {
     let mut at = 0;
-    let mut start = from;
-    while start < s.len() {
-        let g = next_group(s, ranks, start);
-        write_group(row, at, start, g.length, g.power);
+    for g in groups(s, ranks, from) {
+        write_group(row, at, g.start, g.length, g.power);
         at += 3;
-        start += g.power * g.length;
     }
     at / 3
 }
@@ -58,11 +48,8 @@ pub fn last_factor(s: &[u8], ranks: &[u8]) -> usize
     ensures { result ≡ last_length (factors (ranked ranks.now s.now)) }
 {
     let mut last = 0;
-    let mut end = 0;
-    while end < s.len() {
-        let g = next_group(s, ranks, end);
+    for g in groups(s, ranks, 0) {
         last = g.length;
-        end += g.power * g.length;
     }
     last
 }

@@ -15,6 +15,7 @@ pub fn digit_list() -> [u8; 16]
 }
 
 // The two digits of the byte b, the high one first.
+#[tactic(auto, unfolding(crate::specs::Hex::pair_of))]
 pub fn pair_of(digits: &[u8; 16], b: usize) -> [u8; 2]
     requires { HexDigits digits.now × (b < 256) }
     ensures { result ≡ pair_of b }

@@ -19,13 +19,11 @@ pub fn next_gap(gap: usize, most: usize, leapt: bool) -> usize
     if leapt {
         return 8;
     }
-    if gap <= most - gap {
-        return 2 * gap;
-    }
-    most
+    gap + gap.min(most - gap)
 }
 
 // Where the word from i to j ends after it has grown over blocks.
+#[tactic(auto, using(ranks::proofs::Ranked::none_ranked, ranks::proofs::Ranked::ranks_long))]
 fn grow(s: &[u8], ranks: &[u8], i: usize, j: usize) -> usize
     requires { Ranks ranks.now × (i + 8 ≤ j) × Scan (ranked ranks.now s.now) i j (j - i) }
     ensures { (j ≤ result) × Scan (ranked ranks.now s.now) i result (result - i) }
@@ -37,13 +35,14 @@ fn grow(s: &[u8], ranks: &[u8], i: usize, j: usize) -> usize
 }
 
 // Where Duval's scan stands: at place j, with the period p.
-#[derive(Drop)]
+#[derive(Clone, Copy)]
 pub struct Mark {
     pub j: usize,
     pub p: usize,
 }
 
 // The scan from i goes on by blocks: the period goes on, or a word that has just grown grows on.
+#[tactic(auto, using(ranks::proofs::Ranked::length_ranked))]
 pub fn leap(s: &[u8], ranks: &[u8], i: usize, j: usize, p: usize) -> Mark
     requires { Ranks ranks.now × Scan (ranked ranks.now s.now) i j p }
     ensures { (j ≤ result.j) × Scan (ranked ranks.now s.now) i result.j result.p }

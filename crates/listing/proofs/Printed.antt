@@ -10,17 +10,15 @@ use Rattle.lyndon_text.specs.Calls.{ListingWritten}
 use Rattle.ranks.proofs.Marks.{byte_order_lem}
 use Rattle.ranks.proofs.Ranked.{written_byte_order}
 use Rattle.ranks.specs.Ranks.{Bytes, byte_order}
-use Rattle.refusals.specs.Filled.{Fills}
+use Rattle.refusals.specs.Filled.{Filled, Fills}
 use Rattle.refusals.specs.Refusals.{Refusal, first_of, row_after, max_pattern, not_order, pattern_too_long, too_short}
-use Rattle.refusals.specs.declared.Filled.{Filled}
 use Rattle.refusals.proofs.First.{First, first_is, passes, too_long, not_long, not_short}
 use Rattle.text_lines.proofs.Lines.{listing_bytes, listing_room}
-use Rattle.text.proofs.Lengths.{refusal_room}
 use Rattle.text.proofs.Begins.{puts_begins}
 use Rattle.text.specs.Inner.{max_listing}
 use Rattle.text.specs.Listing.{listing_text, refusal_text, printed, Begins}
 use Rattle.rows.specs.Row.{written}
-use Rattle.rows.specs.Written.{Room, Puts}
+use Rattle.rows.specs.Written.{Puts}
 use Rattle.words.proofs.Bounded.{le_or_lt}
 use Rattle.listing.specs.Output.{output}
 
@@ -63,18 +61,8 @@ module _ (s d : List ℕ) {d' : List ℕ} {r : Filled} (w : Listed s d d' r) (ro
           ∙ sym (first_is (not_long s h First.none))
       go (inr h) = passed (too_long s h) ∙ sym (first_is (too_long s {rs = []} h))
 
-  pub same_buffer : (r.refusal ≡ 0 → ⊥) → d' ≡ d
+  same_buffer : (r.refusal ≡ 0 → ⊥) → d' ≡ d
   same_buffer h = w.leaves ∙ row_refused first (listing_text s) d w.refusal h
-
-  small : r.refusal ≤ 1
-  small = go (le_or_lt (length s) max_pattern)
-    where
-      go : (length s ≤ max_pattern) ⊎ (max_pattern < length s) → r.refusal ≤ 1
-      go (inl h) = omega (arith, w.refusal, number, first_is (not_long s h First.none))
-      go (inr h) = omega (arith, w.refusal, number, first_is (too_long s {rs = []} h))
-
-  pub line_room : (r.refusal ≡ 0 → ⊥) → Room (refusal_text r.refusal) 0 d'
-  line_room h = omega (arith, refusal_room r.refusal (omega (arith, small)), ap length (same_buffer h))
 
   pub refused_output : (r.refusal ≡ 0 → ⊥) → {d'' : List ℕ} {n : ℕ} → Puts (refusal_text r.refusal) 0 d' d'' n → Begins (output s) d d'' n
   unfolding output

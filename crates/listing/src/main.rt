@@ -24,11 +24,10 @@ fn write_output(pattern: &[u8], text: &mut [u8]) -> usize
 {
     let mut order = [0u8; ORDER];
     fill_byte_order(&mut order);
-    let answer = write_listing(pattern, &order, text);
-    if answer.refusal != 0 {
-        return write_refusal(answer.refusal as usize, text);
+    match write_listing(pattern, &order, text) {
+        Ok(count) => count,
+        Err(refusal) => write_refusal(refusal, text),
     }
-    answer.count
 }
 
 fn main(rt: HostRuntime) -> ExitCode {

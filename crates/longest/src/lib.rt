@@ -6,7 +6,8 @@ ghost use Rattle.ranks.specs.Inner.{Ranks};
 ghost use Rattle.ranks.specs.Ranks.{ranked};
 ghost use Rattle.longest.specs.Best.{better_of, run_of, Measures};
 
-use scan::next_group;
+use scan::groups;
+use std::cmp::Ordering;
 
 // The first of the longest Lyndon substrings, and how many there are.
 #[derive(Clone, Copy)]
@@ -21,20 +22,18 @@ pub fn better(best: Longest, start: usize, length: usize, power: usize) -> Longe
     requires { best.count + power < 18446744073709551616 }
     ensures { result ≡ better_of best start length power }
 {
-    if best.length < length {
-        return Longest {
+    match best.length.cmp(&length) {
+        Ordering::Less => Longest {
             start,
             length,
             count: power,
-        };
-    }
-    if length < best.length {
-        return best;
-    }
-    Longest {
-        start: best.start,
-        length,
-        count: best.count + power,
+        },
+        Ordering::Equal => Longest {
+            start: best.start,
+            length,
+            count: best.count + power,
+        },
+        Ordering::Greater => best,
     }
 }
 
@@ -49,7 +48,7 @@ pub fn first_run(run: usize, longest: usize, length: usize, power: usize) -> usi
 }
 
 // The longest Lyndon substrings, and how many of them stand in the first group that has them.
-#[derive(Drop)]
+#[derive(Clone, Copy)]
 pub struct LongestRun {
     pub found: Longest,
     pub run: usize,
@@ -65,12 +64,9 @@ pub fn measure(s: &[u8], ranks: &[u8]) -> LongestRun
         count: 0,
     };
     let mut run = 0;
-    let mut i = 0;
-    while i < s.len() {
-        let g = next_group(s, ranks, i);
+    for g in groups(s, ranks, 0) {
         run = first_run(run, best.length, g.length, g.power);
-        best = better(best, i, g.length, g.power);
-        i += g.power * g.length;
+        best = better(best, g.start, g.length, g.power);
     }
     LongestRun { found: best, run }
 }

@@ -8,7 +8,7 @@ use lib.Seq.{take_all}
 use borrow.Author.Tests.{eq-eqb, ne_eqb}
 use Rattle.words.specs.Tables.{suffix_groups, longest, longest_starts}
 use Rattle.rows.specs.Row.{written, written_at}
-use Rattle.rows.proofs.Wrote.{Wrote, wrote_one, wrote_part, wrote_from, wrote_to, wrote_room, wrote_length}
+use Rattle.rows.proofs.Wrote.{Wrote, wrote_one, wrote_part, wrote_from, wrote_to, wrote_room}
 use Rattle.scan.specs.Group.{NextGroup}
 use Rattle.scan.proofs.Next.{groups_start, suffix_end}
 use Rattle.longest.specs.declared.Longest.{Longest}
@@ -18,7 +18,6 @@ use Rattle.longest.proofs.Seen.{length_run}
 
 -- k of a group's starts stand in the row from place `at` on; i is the next
 pub record Run (d row : List ℕ) (at start size power k i : ℕ) : Type 0 where
-  pub upto : k ≤ power
   pub place : i + (power - k) * size ≡ start + power * size
   pub wrote : Wrote (take at d ++ run_from start size power) d row (at + k) (run_from i size (power - k))
 
@@ -27,36 +26,21 @@ run_none d at start size power h =
     let z : power - 0 ≡ power = omega arith in
     let e : at + 0 ≡ at = omega arith in
     record {
-      upto = omega arith;
       place = rw z refl;
       wrote = rw (z, e) (wrote_from at (run_from start size power) d (omega (arith, length_run start size power)));
     }
 
-module _ {d row : List ℕ} {at start size power k i : ℕ} (w : Run d row at start size power k i) where
-  pub run_long : length row ≡ length d
-  run_long = wrote_length w.wrote
+module _ {d row : List ℕ} {at start size power k i : ℕ} (w : Run d row at start size power k i) (h : k < power) where
+  left : power - k ≡ suc (power - (k + 1))
+  left = omega arith
 
-  pub run_room : at + power ≤ length row
-  run_room = omega (arith, wrote_room w.wrote, length_run i size (power - k))
+  pub run_next : i + size ≤ start + power * size
+  run_next = omega (arith, rw left at w.place)
 
-  pub run_next : k < power → i + size ≤ start + power * size
-  run_next h =
-      let e : power - k ≡ suc (power - (k + 1)) = omega arith in
-      let p : i + suc (power - (k + 1)) * size ≡ start + power * size = rw e at w.place in
-      omega (arith, p)
-
-  pub run_one : k < power → Run d (set row (at + k) i) at start size power (k + 1) (i + size)
-  run_one h =
-      let e : power - k ≡ suc (power - (k + 1)) = omega arith in
+  pub run_one : Run d (set row (at + k) i) at start size power (k + 1) (i + size)
+  run_one =
       let f : at + k + 1 ≡ at + (k + 1) = omega arith in
-      let p : i + suc (power - (k + 1)) * size ≡ start + power * size = rw e at w.place in
-      record { upto = omega arith; place = omega (arith, p); wrote = rw f at (wrote_one (rw e at w.wrote)) }
-
-  pub run_all : power ≤ k → row ≡ written_at at (run_from start size power) d
-  run_all h =
-      let z : power - k ≡ 0 = omega arith in
-      let n = length_run start size power in
-      (wrote_to at (run_from start size power) d (omega (arith, n, run_room, run_long)) (rw z at w.wrote)).1
+      record { place = omega (arith, rw left at w.place); wrote = rw f at (wrote_one (rw left at w.wrote)) }
 
 -- the starts of the groups before place i stand in the row, and the others are left
 module _ {s : List ℕ} {size i l e : ℕ} (g : NextGroup s i l e) where

@@ -10,19 +10,18 @@ ghost use Rattle.words.specs.Tables.{suffix_groups, longest_starts};
 ghost use Rattle.longest.specs.Best.{run_from, starts_of, Measures};
 
 use longest::Longest;
-use scan::next_group;
+use scan::groups;
 
 // Writes the starts of a group's factors from place `at` of the row on, and answers the place after them.
 pub fn write_run(row: &mut [u16], at: usize, start: usize, size: usize, power: usize) -> usize
     requires { (at + power ≤ length row.old) × (start + power * size ≤ 65535) }
     ensures { (result ≡ at + power) × (row.new ≡ written_at at (run_from start size power) row.old) }
 {
-    let mut k = 0;
+    // a second counter: of `start + k * size` the compiler makes vectors of the places, which are read-only memory, and that is short
     let mut i = start;
-    while k < power {
+    for k in 0..power {
         row[at + k] = i as u16;
         i += size;
-        k += 1;
     }
     at + power
 }
@@ -40,13 +39,10 @@ pub fn write_starts(
     ensures { (result ≡ at + length (starts_of size (suffix_groups (ranked ranks.now s.now) from))) × (row.new ≡ written_at at (starts_of size (suffix_groups (ranked ranks.now s.now) from)) row.old) }
 {
     let mut next = at;
-    let mut i = from;
-    while i < s.len() {
-        let g = next_group(s, ranks, i);
+    for g in groups(s, ranks, from) {
         if g.length == size {
-            next = write_run(row, next, i, g.length, g.power);
+            next = write_run(row, next, g.start, g.length, g.power);
         }
-        i += g.power * g.length;
     }
     next
 }

@@ -9,7 +9,7 @@ use lib.ListN.{length, get_or}
 use Rattle.ranks.proofs.Examples.{reverse}
 use Rattle.ranks.specs.Demand.{DemandTwoBy}
 use Rattle.ranks.specs.Ranks.{byte_order, LessBy}
-use Rattle.refusals.specs.declared.Filled.{Filled}
+use Rattle.refusals.specs.Filled.{Filled}
 use Rattle.words.specs.Factors.{spelled, number_groups}
 use Rattle.lyndon.specs.Calls.{Factored}
 

@@ -22,8 +22,10 @@ ghost use Rattle.block.specs.Calls.{BlockRead, BlockWritten};
 ghost use Rattle.lyndon_c.specs.Flat.{flat_of};
 
 use block::{read_block, write_block};
+use block_place::Span;
+use comparing::{Compared, smaller_number};
 use lyndon::{byte_order, factor};
-use lyndon_compare::{Comparison, compare};
+use lyndon_compare::compare;
 use lyndon_prefix::factor_prefix;
 use lyndon_rotation::least_rotation;
 use lyndon_suffix::factor_suffix;
@@ -32,9 +34,11 @@ use lyndon_test::is_lyndon;
 use lyndon_text::write_listing;
 use lyndon_trigger::longest_word_place;
 use lyndon_wanted::realise_array;
-use lyndon_words::longest_words;
-use refusals::INTERFACE;
+use lyndon_words::{Starts, longest_words};
+use refusals::{INTERFACE, refusal_of};
+use std::cmp::Ordering;
 
+// Each archive tells it, so that it stands in `lyndon_edit_c` too.
 #[unsafe(no_mangle)]
 pub extern "C" fn lyndon_interface() -> u32
     ensures { result ≡ interface }
@@ -47,8 +51,8 @@ pub extern "C" fn lyndon_byte_order(order: &mut [u8], count: &mut usize) -> u8
     ensures { ByteOrderWritten order.old order.new (record { refusal = result; count = count.new }) }
 {
     let answer = byte_order(order);
-    *count = answer.count;
-    answer.refusal
+    *count = answer.unwrap_or(0);
+    refusal_of(answer)
 }
 
 #[unsafe(no_mangle)]
@@ -61,8 +65,8 @@ pub extern "C" fn lyndon_factor(
     ensures { Factored pattern.now order.now groups.old groups.new (record { refusal = result; count = count.new }) }
 {
     let answer = factor(pattern, order, groups);
-    *count = answer.count;
-    answer.refusal
+    *count = answer.unwrap_or(0);
+    refusal_of(answer)
 }
 
 #[unsafe(no_mangle)]
@@ -75,8 +79,8 @@ pub extern "C" fn lyndon_array(
     ensures { ArrayMade pattern.now order.now table.old table.new (record { refusal = result; count = count.new }) }
 {
     let answer = lyndon_tables::lyndon_array(pattern, order, table);
-    *count = answer.count;
-    answer.refusal
+    *count = answer.unwrap_or(0);
+    refusal_of(answer)
 }
 
 #[unsafe(no_mangle)]
@@ -89,8 +93,8 @@ pub extern "C" fn lyndon_last_factors(
     ensures { LastFactorsMade pattern.now order.now table.old table.new (record { refusal = result; count = count.new }) }
 {
     let answer = last_factors(pattern, order, table);
-    *count = answer.count;
-    answer.refusal
+    *count = answer.unwrap_or(0);
+    refusal_of(answer)
 }
 
 #[unsafe(no_mangle)]
@@ -103,8 +107,8 @@ pub extern "C" fn lyndon_realise_array(
     ensures { ArrayRealised wanted.now order.now pattern.old pattern.new (record { refusal = result; count = count.new }) }
 {
     let answer = realise_array(wanted, order, pattern);
-    *count = answer.count;
-    answer.refusal
+    *count = answer.unwrap_or(0);
+    refusal_of(answer)
 }
 
 #[unsafe(no_mangle)]
@@ -118,9 +122,13 @@ pub extern "C" fn lyndon_longest_words(
     ensures { StartsListed pattern.now order.now starts.old starts.new (record { refusal = result; length = size.new; count = count.new }) }
 {
     let answer = longest_words(pattern, order, starts);
-    *size = answer.length;
-    *count = answer.count;
-    answer.refusal
+    let told = answer.unwrap_or(Starts {
+        length: 0,
+        count: 0,
+    });
+    *size = told.length;
+    *count = told.count;
+    refusal_of(answer)
 }
 
 // A reference is no answer for C, which gets the part's place in its pattern.
@@ -143,11 +151,11 @@ pub extern "C" fn lyndon_is_lyndon(word: &[u8], order: &[u8], yes: &mut bool) ->
     ensures { LyndonTold word.now order.now (record { refusal = result; yes = yes.new }) }
 {
     let answer = is_lyndon(word, order);
-    *yes = answer.yes;
-    answer.refusal
+    *yes = answer.unwrap_or(false);
+    refusal_of(answer)
 }
 
-// An enum is no answer for C: beside a refusal both numbers are 0.
+// An ordering is no answer for C: it gets a number, and beside a refusal zeros.
 #[unsafe(no_mangle)]
 pub extern "C" fn lyndon_compare(
     first: &[u8],
@@ -158,18 +166,14 @@ pub extern "C" fn lyndon_compare(
 ) -> u8
     ensures { (result, shared.new, smaller.new) ≡ flat_of (comparison first.now second.now order.now) }
 {
-    match compare(first, second, order) {
-        Comparison::Done(c) => {
-            *shared = c.shared;
-            *smaller = c.smaller;
-            0
-        }
-        Comparison::Refused(number) => {
-            *shared = 0;
-            *smaller = 0;
-            number
-        }
-    }
+    let answer = compare(first, second, order);
+    let told = answer.unwrap_or(Compared {
+        shared: 0,
+        ordering: Ordering::Equal,
+    });
+    *shared = told.shared;
+    *smaller = smaller_number(told.ordering);
+    refusal_of(answer)
 }
 
 #[unsafe(no_mangle)]
@@ -177,8 +181,8 @@ pub extern "C" fn lyndon_least_rotation(pattern: &[u8], order: &[u8], start: &mu
     ensures { RotationFound pattern.now order.now (record { refusal = result; start = start.new }) }
 {
     let answer = least_rotation(pattern, order);
-    *start = answer.start;
-    answer.refusal
+    *start = answer.unwrap_or(0);
+    refusal_of(answer)
 }
 
 #[unsafe(no_mangle)]
@@ -186,8 +190,8 @@ pub extern "C" fn lyndon_tree(word: &[u8], order: &[u8], nodes: &mut [u16], coun
     ensures { TreeListed word.now order.now nodes.old nodes.new (record { refusal = result; count = count.new }) }
 {
     let answer = lyndon_tree::lyndon_tree(word, order, nodes);
-    *count = answer.count;
-    answer.refusal
+    *count = answer.unwrap_or(0);
+    refusal_of(answer)
 }
 
 #[unsafe(no_mangle)]
@@ -202,8 +206,8 @@ pub extern "C" fn lyndon_factor_prefix(
     ensures { PrefixFactored pattern.now order.now table.now end groups.old groups.new (record { refusal = result; count = count.new }) }
 {
     let answer = factor_prefix(pattern, order, table, end, groups);
-    *count = answer.count;
-    answer.refusal
+    *count = answer.unwrap_or(0);
+    refusal_of(answer)
 }
 
 #[unsafe(no_mangle)]
@@ -218,8 +222,8 @@ pub extern "C" fn lyndon_factor_suffix(
     ensures { SuffixFactored pattern.now order.now table.now start groups.old groups.new (record { refusal = result; count = count.new }) }
 {
     let answer = factor_suffix(pattern, order, table, start, groups);
-    *count = answer.count;
-    answer.refusal
+    *count = answer.unwrap_or(0);
+    refusal_of(answer)
 }
 
 #[unsafe(no_mangle)]
@@ -232,8 +236,8 @@ pub extern "C" fn lyndon_write_listing(
     ensures { ListingWritten pattern.now order.now text.old text.new (record { refusal = result; count = count.new }) }
 {
     let answer = write_listing(pattern, order, text);
-    *count = answer.count;
-    answer.refusal
+    *count = answer.unwrap_or(0);
+    refusal_of(answer)
 }
 
 #[unsafe(no_mangle)]
@@ -241,9 +245,10 @@ pub extern "C" fn lyndon_read_block(bytes: &[u8], place: &mut usize, count: &mut
     ensures { BlockRead bytes.now (record { refusal = result; place = place.new; count = count.new }) }
 {
     let answer = read_block(bytes);
-    *place = answer.place;
-    *count = answer.count;
-    answer.refusal
+    let told = answer.unwrap_or(Span { place: 0, count: 0 });
+    *place = told.place;
+    *count = told.count;
+    refusal_of(answer)
 }
 
 #[unsafe(no_mangle)]
@@ -251,6 +256,6 @@ pub extern "C" fn lyndon_write_block(pattern: &[u8], bytes: &mut [u8], count: &m
     ensures { BlockWritten pattern.now bytes.old bytes.new (record { refusal = result; count = count.new }) }
 {
     let answer = write_block(pattern, bytes);
-    *count = answer.count;
-    answer.refusal
+    *count = answer.unwrap_or(0);
+    refusal_of(answer)
 }

@@ -17,12 +17,10 @@ use Rattle.refusals.proofs.First.{First, first_is, none, holds, passes, too_long
 use Rattle.words.specs.Order.{Less, less, smaller, shared}
 use Rattle.words.proofs.Bounded.{le_or_lt}
 use Rattle.words.proofs.Order.{less_le, less_true, true_less, false_less}
-use Rattle.comparing.specs.Compared.{compared}
+use Rattle.comparing.specs.Compared.{compared, smaller_of}
 use Rattle.comparing.specs.declared.Compared.{Compared}
 use Rattle.comparing.proofs.Decided.{compared_shared, compared_smaller}
-use Rattle.lyndon_compare.specs.Calls.{comparison}
-use Rattle.lyndon_compare.specs.declared.Comparison.{Comparison}
-use Rattle.lyndon_compare.specs.declared.Comparison.TheVariants.{Done, Refused}
+use Rattle.lyndon_compare.specs.Calls.{Comparison, Done, Refused, comparison}
 
 -- ranks that rank both strings as the order does compare them as it does
 pub compared_same : (o order a b : List ℕ) → ranked o a ≡ ranked order a → ranked o b ≡ ranked order b → compared o a b ≡ compared order a b
@@ -125,18 +123,18 @@ module _ (a b order : List ℕ) where
         go (long o h p) = absurd (omega (arith, ap number (e ∙ sym p)))
         go (fit o h l p) = (o, ap contents (e ∙ sym p))
 
-    pub numbers : (c.shared ≡ shared a b) × (c.smaller ≡ smaller (ranked order a) (ranked order b))
+    pub numbers : (c.shared ≡ shared a b) × (smaller_of c.ordering ≡ smaller (ranked order a) (ranked order b))
     numbers = (compared_shared order a b accepted.1, compared_smaller order a b accepted.1)
 
     -- 1 is told exactly where the first is smaller under the order, 2 where the second is
     module _ (p : Bytes a) (q : Bytes b) where
-      pub first_smaller : (c.smaller ≡ 1) ↔ LessBy order a b
+      pub first_smaller : (smaller_of c.ordering ≡ 1) ↔ LessBy order a b
       first_smaller =
           let by = smaller_by (order_ranks (order_true order accepted.0)) a b p q in
           let is = tells_first (ranked order a) (ranked order b) in
           ((λ h. by.1 (is.0 (sym numbers.1 ∙ h))), λ h. numbers.1 ∙ is.1 (by.0 h))
 
-      pub second_smaller : (c.smaller ≡ 2) ↔ LessBy order b a
+      pub second_smaller : (smaller_of c.ordering ≡ 2) ↔ LessBy order b a
       second_smaller =
           let by = smaller_by (order_ranks (order_true order accepted.0)) b a q p in
           let is = tells_second (ranked order a) (ranked order b) in

@@ -1,9 +1,19 @@
 -- What the call that compares two strings answers, for every input.
-use Rattle.std.specs.Prelude.{List, [], ◌∷◌, ℕ}
+use Rattle.std.specs.Prelude.{List, [], ◌∷◌, ℕ, Result, Ok, Err}
+use Rattle.refusals.specs.declared.Refusal as call
+use Rattle.refusals.specs.Answers.{number_of}
 use Rattle.refusals.specs.Refusals.{first_of, unless_refused, not_order, pattern_too_long}
 use Rattle.comparing.specs.Compared.{compared}
-use Rattle.lyndon_compare.specs.declared.Comparison.{Comparison}
-use Rattle.lyndon_compare.specs.declared.Comparison.TheVariants.{Done, Refused}
+use Rattle.comparing.specs.declared.Compared.{Compared}
+
+-- The shared length and which is smaller, or the refusal's number alone.
+pub data Comparison : Type 0 where
+  Done : Compared → Comparison
+  Refused : ℕ → Comparison
+
+abbrev pub comparison_of : Result Compared call.Refusal → Comparison
+comparison_of (Ok c) = Done c
+comparison_of (Err e) = Refused (number_of e)
 
 -- compare: the two numbers where nothing is refused, otherwise the refusal's number alone. 1 holds where either string is too long.
 abbrev pub comparison : List ℕ → List ℕ → List ℕ → Comparison

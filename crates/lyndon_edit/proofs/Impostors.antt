@@ -8,9 +8,8 @@ use mathlib.Core.Path.{◌≡◌, refl, sym, ap, ◌∙◌}
 use Prim.Native.Nat.{ℕ, zero, suc, ◌<◌}
 use native.Mathlib.Omega.{arith}
 use lib.ListN.{length, take, drop, get_or}
-use Rattle.edit.specs.Core.{counts_of, answer_of, all_refusals}
-use Rattle.edit.specs.declared.Answer as call
-use Rattle.edit.specs.declared.Answer.TheVariants.{Done, Refused}
+use Rattle.edit.specs.Core as call
+use Rattle.edit.specs.Core.{Done, Refused, counts_of, answer_of, all_refusals}
 use Rattle.edit.specs.declared.Counts.{Counts}
 use Rattle.ranks.proofs.Demand.{MeetsThreeBy}
 use Rattle.ranks.proofs.Theorems.{order_test, demand_two_by, byte_order_lem, byte_order_ranked, byte_order_factors, byte_order_demand_three}

@@ -2,11 +2,13 @@
 // order and writes nothing where one holds; it requires nothing. `edit_core` does the work on rows of numbers.
 #![tactic(auto)]
 
+ghost use Rattle.edit.specs.Core.{answer_told};
 ghost use Rattle.edit_answered.specs.Calls.{EditAnswered};
 
-use edit::{Answer, MAX_MIDDLE, count_of};
+use edit::{Counts, MAX_MIDDLE};
 use edit_core::core;
 use records::{Group, store_all};
+use refusals::Refusal;
 
 // The middle groups go to a lent row of records.
 pub fn edit(
@@ -19,11 +21,11 @@ pub fn edit(
     block: &[u8],
     middle: &mut [Group],
     starts: &mut [u16],
-) -> Answer
-    ensures { EditAnswered pattern.now order.now array.now last.now from to block.now middle.old middle.new starts.old starts.new result }
+) -> Result<Counts, Refusal>
+    ensures { EditAnswered pattern.now order.now array.now last.now from to block.now middle.old middle.new starts.old starts.new (answer_told result) }
 {
     let mut numbers = [0u16; 3 * MAX_MIDDLE];
-    let answer = core(
+    let counts = core(
         pattern,
         order,
         array,
@@ -34,8 +36,7 @@ pub fn edit(
         middle.len(),
         &mut numbers,
         starts,
-    );
-    let count = count_of(answer);
-    store_all(middle, &numbers, count);
-    answer
+    )?;
+    store_all(middle, &numbers, counts.groups);
+    Ok(counts)
 }

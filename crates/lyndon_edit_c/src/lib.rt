@@ -8,7 +8,7 @@ ghost use Rattle.refusals.specs.Interface.{interface};
 ghost use Rattle.edit_answered.specs.Calls.{EditAnswered};
 ghost use Rattle.edit_flat.specs.Flat.{Exports};
 
-use edit_flat::{EditAnswer, flatten};
+use edit_flat::EditAnswer;
 use records::Group;
 use refusals::INTERFACE;
 
@@ -27,8 +27,7 @@ pub extern "C" fn lyndon_edit(
 ) -> EditAnswer
     ensures { Exports (EditAnswered pattern.now order.now array.now last.now from to block.now middle.old middle.new starts.old starts.new) result }
 {
-    let answer = lyndon_edit::edit(pattern, order, array, last, from, to, block, middle, starts);
-    flatten(answer)
+    lyndon_edit::edit(pattern, order, array, last, from, to, block, middle, starts).into()
 }
 
 #[unsafe(no_mangle)]

@@ -3,9 +3,8 @@ use Rattle.std.specs.Prelude.{List, [], ◌∷◌, ℕ, length}
 use Rattle.ranks.specs.Ranks.{ranked}
 use Rattle.words.specs.Factors.{group_numbers}
 use Rattle.words.specs.Tables.{last_factors, prefix_groups}
-use Rattle.refusals.specs.Filled.{Fills}
+use Rattle.refusals.specs.Filled.{Filled, Fills}
 use Rattle.refusals.specs.Refusals.{not_order, pattern_too_long, past_end, not_table, too_short}
-use Rattle.refusals.specs.declared.Filled.{Filled}
 
 -- factor_prefix, by the pattern's table of last factors
 abbrev pub PrefixFactored : List ℕ → List ℕ → List ℕ → ℕ → List ℕ → List ℕ → Filled → Type 0

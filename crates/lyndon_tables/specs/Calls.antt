@@ -2,9 +2,8 @@
 use Rattle.std.specs.Prelude.{List, [], ◌∷◌, ℕ, length}
 use Rattle.ranks.specs.Ranks.{ranked}
 use Rattle.words.specs.Tables.{lyndon_array, last_factors}
-use Rattle.refusals.specs.Filled.{Fills}
+use Rattle.refusals.specs.Filled.{Filled, Fills}
 use Rattle.refusals.specs.Refusals.{not_order, pattern_too_long, too_short}
-use Rattle.refusals.specs.declared.Filled.{Filled}
 
 -- lyndon_array
 abbrev pub ArrayMade : List ℕ → List ℕ → List ℕ → List ℕ → Filled → Type 0

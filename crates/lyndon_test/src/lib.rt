@@ -1,46 +1,22 @@
 // The public library's test of a string, whether it is a Lyndon word. It tests its refusals and then looks at the first group of factors.
 #![tactic(auto)]
 
-ghost use Rattle.lyndon_test.specs.Calls.{LyndonTold};
+ghost use Rattle.lyndon_test.specs.Calls.{LyndonTold, verdict_of};
 
 use order_test::test_order;
-use refusals::MAX_PATTERN;
+use refusals::{MAX_PATTERN, Refusal};
 use scan::next_group;
 
-#[derive(Drop)]
-pub struct Verdict {
-    pub refusal: u8,
-    pub yes: bool,
-}
-
 // Whether the string is a Lyndon word. Refusals 13, 1.
-pub fn is_lyndon(word: &[u8], order: &[u8]) -> Verdict
-    ensures { LyndonTold word.now order.now result }
+pub fn is_lyndon(word: &[u8], order: &[u8]) -> Result<bool, Refusal>
+    ensures { LyndonTold word.now order.now (verdict_of result) }
 {
-    let tested = test_order(order);
-    if !tested.order {
-        return Verdict {
-            refusal: 13,
-            yes: false,
-        };
-    }
-    let used = tested.used;
-    let ranks = &order[..used];
+    let ranks = test_order(order)?;
     if MAX_PATTERN < word.len() {
-        return Verdict {
-            refusal: 1,
-            yes: false,
-        };
+        return Err(Refusal::PatternTooLong);
     }
-    if word.len() == 0 {
-        return Verdict {
-            refusal: 0,
-            yes: false,
-        };
+    if word.is_empty() {
+        return Ok(false);
     }
-    let first = next_group(word, ranks, 0);
-    Verdict {
-        refusal: 0,
-        yes: first.length == word.len(),
-    }
+    Ok(next_group(word, ranks, 0).length == word.len())
 }

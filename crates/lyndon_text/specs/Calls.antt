@@ -1,7 +1,6 @@
 -- What the call on listings answers and leaves in the lent buffer, for every input.
 use Rattle.std.specs.Prelude.{List, [], ◌∷◌, ℕ, length}
-use Rattle.refusals.specs.Filled.{Fills}
-use Rattle.refusals.specs.declared.Filled.{Filled}
+use Rattle.refusals.specs.Filled.{Filled, Fills}
 use Rattle.refusals.specs.Refusals.{not_order, pattern_too_long, too_short}
 use Rattle.text.specs.Listing.{listing_by}
 

@@ -2,9 +2,8 @@
 use Rattle.std.specs.Prelude.{List, [], ◌∷◌, ℕ, length}
 use Rattle.ranks.specs.Ranks.{ranked}
 use Rattle.words.specs.Tree.{tree_nodes, node_numbers}
-use Rattle.refusals.specs.Filled.{Fills}
+use Rattle.refusals.specs.Filled.{Filled, Fills}
 use Rattle.refusals.specs.Refusals.{not_order, word_too_long, not_lyndon, too_short}
-use Rattle.refusals.specs.declared.Filled.{Filled}
 
 -- lyndon_tree
 abbrev pub TreeListed : List ℕ → List ℕ → List ℕ → List ℕ → Filled → Type 0

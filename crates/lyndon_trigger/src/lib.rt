@@ -9,7 +9,7 @@ use longest::measure;
 use order_test::test_order;
 use refusals::MAX_PATTERN;
 
-#[derive(Drop)]
+#[derive(Clone, Copy)]
 pub struct WordPlace {
     pub start: usize,
     pub length: usize,
@@ -19,26 +19,21 @@ pub struct WordPlace {
 pub fn longest_word_place(pattern: &[u8], order: &[u8]) -> WordPlace
     ensures { (result.start, result.length) ≡ word_place pattern.now order.now }
 {
-    let tested = test_order(order);
-    if !tested.order {
-        return WordPlace {
-            start: 0,
-            length: 0,
-        };
-    }
-    let used = tested.used;
-    let ranks = &order[..used];
+    let nowhere = WordPlace {
+        start: 0,
+        length: 0,
+    };
+    let Ok(ranks) = test_order(order) else {
+        return nowhere;
+    };
     if MAX_PATTERN < pattern.len() {
-        return WordPlace {
-            start: 0,
-            length: 0,
-        };
+        return nowhere;
     }
-    let m = measure(pattern, ranks);
-    let found = m.found;
-    let start = found.start;
-    let length = found.length;
-    WordPlace { start, length }
+    let found = measure(pattern, ranks).found;
+    WordPlace {
+        start: found.start,
+        length: found.length,
+    }
 }
 
 // The first of the longest Lyndon substrings, as a part of the pattern; the empty part where the call is refused.
@@ -46,7 +41,5 @@ pub fn longest_word<'a>(pattern: &'a [u8], order: &[u8]) -> &'a [u8]
     ensures { WordCut pattern.now order.now pattern.entry.ref_ptr result.now result.ref_ptr }
 {
     let word = longest_word_place(pattern, order);
-    let start = word.start;
-    let end = start + word.length;
-    &pattern[start..end]
+    &pattern[word.start..word.start + word.length]
 }

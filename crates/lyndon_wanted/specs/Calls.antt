@@ -2,9 +2,8 @@
 use Rattle.std.specs.Prelude.{Bool, true, false, List, [], ◌∷◌, ◌≡◌, ℕ, ◌≤◌, length}
 use Rattle.ranks.specs.Ranks.{Bytes, is_order, ranked}
 use Rattle.words.specs.Tables.{lyndon_array}
-use Rattle.refusals.specs.Filled.{Fills}
+use Rattle.refusals.specs.Filled.{Filled, Fills}
 use Rattle.refusals.specs.Refusals.{Refusal, not_order, too_short, max_wanted, wanted_too_long, no_pattern}
-use Rattle.refusals.specs.declared.Filled.{Filled}
 
 -- realise_array. A byte pattern with the wanted reach table; it has as many bytes as the table has entries.
 pub record HasArray (wanted order s : List ℕ) : Type 0 where

@@ -7,7 +7,7 @@ ghost use Rattle.rows.specs.Row.{written};
 ghost use Rattle.ranks.specs.Ranks.{Order, byte_order, ranked};
 ghost use Rattle.ranks.specs.Inner.{Inverse};
 
-use symbols::{ORDER, wide};
+use symbols::ORDER;
 
 // Writes byte order to the front of a row. Each rank is made of its half, which is read back from the row: this compiles to a loop, where a
 // counter would be written out of 256 constant bytes, and read-only memory is short.
@@ -16,11 +16,9 @@ pub fn fill_byte_order(order: &mut [u8])
     ensures { order.new ≡ written byte_order order.old }
 {
     order[0] = 0;
-    let mut b = 1;
-    while b < ORDER {
-        let half = wide(order[b / 2]);
+    for b in 1..ORDER {
+        let half = usize::from(order[b / 2]);
         order[b] = (2 * half + b % 2) as u8;
-        b += 1;
     }
 }
 
@@ -30,11 +28,9 @@ pub fn bytes_of(order: &[u8]) -> [u8; 256]
     ensures { Inverse order.now result }
 {
     let mut bytes = [0u8; ORDER];
-    let mut b = 0;
-    while b < ORDER {
-        let rank = wide(order[b]);
+    for b in 0..ORDER {
+        let rank = usize::from(order[b]);
         bytes[rank] = b as u8;
-        b += 1;
     }
     bytes
 }
@@ -44,10 +40,7 @@ pub fn replace_ranks(row: &mut [u8], n: usize, bytes: &[u8; 256])
     requires { (n ≤ length row.old) × (length bytes.now ≡ 256) }
     ensures { row.new ≡ written (ranked bytes.now (take n row.old)) row.old }
 {
-    let mut k = 0;
-    while k < n {
-        let at = wide(row[k]);
-        row[k] = bytes[at];
-        k += 1;
+    for x in &mut row[..n] {
+        *x = bytes[usize::from(*x)];
     }
 }

@@ -2,13 +2,14 @@
 // Byte order is told by steps of sixteen ranks, and only what is not byte order is looked at rank by rank.
 #![tactic(auto)]
 
-ghost use Rattle.std.specs.Prelude.{◌≡◌, ◌+◌, ◌-◌, ◌%◌, ◌<◌, ◌≤◌, true, length, slice_index};
+ghost use Rattle.std.specs.Prelude.{◌≡◌, ◌+◌, ◌-◌, ◌%◌, ◌<◌, ◌≤◌, true, false, length, slice_index, IfOk, IfErr};
 ghost use Rattle.rows.specs.Filled.{Right};
 ghost use Rattle.ranks.specs.Ranks.{is_order, byte_order};
-ghost use Rattle.ranks.specs.Inner.{OrderTested};
+ghost use Rattle.ranks.specs.Inner.{Handed};
 
+use refusals::Refusal;
 use std::num::wrapping_add_u8;
-use symbols::{ORDER, wide};
+use symbols::ORDER;
 
 // Whether each of the sixteen ranks from i on is one more than the rank before it, and so needs no list to be compared with.
 fn rising_block(order: &[u8], i: usize) -> bool
@@ -17,9 +18,8 @@ fn rising_block(order: &[u8], i: usize) -> bool
 {
     let mut all = true;
     for k in 0..16 {
-        let x = order[i + k];
-        let y = wrapping_add_u8(order[i + k - 1], 1);
-        all = all & (x == y);
+        let next = wrapping_add_u8(order[i + k - 1], 1);
+        all &= order[i + k] == next;
     }
     all
 }
@@ -33,12 +33,10 @@ fn is_byte_order(order: &[u8]) -> bool
     if order[0] != 0 {
         return false;
     }
-    let mut i = 1;
-    while i < 240 {
+    for i in (1..240).step_by(16) {
         if !rising_block(order, i) {
             return false;
         }
-        i += 16;
     }
     rising_block(order, 240)
 }
@@ -49,49 +47,29 @@ fn none_twice(order: &[u8]) -> bool
     ensures { result ≡ is_order order.now }
 {
     let mut marks = [0u8; ORDER];
-    let mut k = 0;
-    while k < order.len() {
-        let rank = wide(order[k]);
-        if marks[rank] != 0 {
+    for &rank in order {
+        let at = usize::from(rank);
+        if marks[at] != 0 {
             return false;
         }
-        marks[rank] = 1;
-        k += 1;
+        marks[at] = 1;
     }
     true
 }
 
-// Whether it is an order, and how many of its ranks are to be handed down: none of byte order, nor of what is no order.
-#[derive(Drop)]
-pub struct Tested {
-    pub order: bool,
-    pub used: usize,
-}
-
-// The test of refusal 13.
-pub fn test_order(order: &[u8]) -> Tested
-    ensures { OrderTested order.now result.order result.used }
+// The test of refusal 13: the ranks to be handed down, which are none of byte order.
+pub fn test_order(order: &[u8]) -> Result<&[u8], Refusal>
+    ensures accepted { IfOk result (λ ranks. Handed order.now ranks.now) }
+    ensures refused { IfErr result (λ refusal. (refusal ≡ Refusal.NotAnOrder) × (is_order order.now ≡ false)) }
 {
     if order.len() != ORDER {
-        return Tested {
-            order: false,
-            used: 0,
-        };
+        return Err(Refusal::NotAnOrder);
     }
     if is_byte_order(order) {
-        return Tested {
-            order: true,
-            used: 0,
-        };
+        return Ok(&order[..0]);
     }
     if none_twice(order) {
-        return Tested {
-            order: true,
-            used: ORDER,
-        };
+        return Ok(order);
     }
-    Tested {
-        order: false,
-        used: 0,
-    }
+    Err(Refusal::NotAnOrder)
 }

@@ -6,9 +6,8 @@ use order_bytes::fill_byte_order;
 // Each rank is the one before it and a step, modulo 256: an order where the step is odd.
 pub(crate) fn stepping(order: &mut [u8], first: u8, step: u8) {
     let mut rank = first;
-    let n = order.len();
-    for b in 0..n {
-        order[b] = rank;
+    for place in order {
+        *place = rank;
         rank = std::num::wrapping_add_u8(rank, step);
     }
 }

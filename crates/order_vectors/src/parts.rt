@@ -4,7 +4,7 @@ use show::calls::OLD;
 use std::io;
 
 fn prefixes(rt: &impl Print, s: &[u8], order: &[u8], table: &mut [u16]) -> io::Result<()> {
-    lyndon_tables::last_factors(s, order, table);
+    let _ = lyndon_tables::last_factors(s, order, table);
     calls::factor_prefix(rt, s, order, table, 0, 0)?;
     calls::factor_prefix(rt, s, order, table, 5, 12)?;
     calls::factor_prefix(rt, s, order, table, 8, 15)?;
@@ -12,7 +12,7 @@ fn prefixes(rt: &impl Print, s: &[u8], order: &[u8], table: &mut [u16]) -> io::R
 }
 
 fn suffixes(rt: &impl Print, s: &[u8], order: &[u8], table: &mut [u16]) -> io::Result<()> {
-    lyndon_tables::lyndon_array(s, order, table);
+    let _ = lyndon_tables::lyndon_array(s, order, table);
     calls::factor_suffix(rt, s, order, table, 0, 12)?;
     calls::factor_suffix(rt, s, order, table, 4, 15)?;
     calls::factor_suffix(rt, s, order, table, 9, 9)?;
@@ -20,9 +20,9 @@ fn suffixes(rt: &impl Print, s: &[u8], order: &[u8], table: &mut [u16]) -> io::R
 }
 
 fn both(rt: &impl Print, s: &[u8], order: &[u8], table: &mut [u16]) -> io::Result<()> {
-    lyndon_tables::last_factors(s, order, table);
+    let _ = lyndon_tables::last_factors(s, order, table);
     calls::factor_prefix(rt, s, order, table, 25, 6)?;
-    lyndon_tables::lyndon_array(s, order, table);
+    let _ = lyndon_tables::lyndon_array(s, order, table);
     calls::factor_suffix(rt, s, order, table, 0, 6)
 }
 

@@ -10,17 +10,17 @@ use std::io;
 fn edits(rt: &impl Print, s: &[u8], order: &[u8], array: &[u16], last: &[u16]) -> io::Result<()> {
     edit_with(rt, s, order, array, last, 5, 6, b"b", 1, 1)?;
     let mut own = [OLD; 13];
-    lyndon_tables::lyndon_array(s, order, &mut own);
+    let _ = lyndon_tables::lyndon_array(s, order, &mut own);
     edit_with(rt, s, order, &own, last, 5, 6, b"b", 1, 1)?;
-    lyndon_tables::last_factors(s, order, &mut own);
+    let _ = lyndon_tables::last_factors(s, order, &mut own);
     edit_with(rt, s, order, array, &own, 5, 6, b"b", 1, 1)
 }
 
 // The tables under one order, lent to questions under another.
 fn lent(rt: &impl Print, s: &[u8], of: &[u8], order: &[u8], table: &mut [u16]) -> io::Result<()> {
-    lyndon_tables::last_factors(s, of, table);
+    let _ = lyndon_tables::last_factors(s, of, table);
     calls::factor_prefix(rt, s, order, table, s.len(), 3)?;
-    lyndon_tables::lyndon_array(s, of, table);
+    let _ = lyndon_tables::lyndon_array(s, of, table);
     calls::factor_suffix(rt, s, order, table, 0, 3)
 }
 

@@ -1,15 +1,19 @@
 -- Equal neighbouring factors counted back along the table of last factors, from the end of a group.
 use mathlib.Core.Bool.{Bool, true, false}
 use mathlib.Core.List.{List, [], ◌∷◌, ◌++◌, append_assoc, append-nil}
+use mathlib.Core.Logic.{◌⊎◌, inl, inr}
 use mathlib.Core.Path.{◌≡◌, refl, sym, ap, ◌∙◌}
-use Prim.Native.Nat.{ℕ, ◌+◌, ◌*◌, ◌-◌, ◌≤◌, ◌<◌}
+use Prim.Native.Nat.{ℕ, zero, suc, ◌+◌, ◌*◌, ◌-◌, ◌≤◌, ◌<◌}
 use native.Mathlib.Omega.{arith}
+use lib.Dec.{eqb}
 use lib.ListN.{length, take, drop, get_or, replicate, length-take, replicate-append-replicate}
 use lib.Seq.{get_or-take}
+use borrow.Author.Tests.{eqb-true, eqb-false}
 use Rattle.words.specs.Order.{same}
 use Rattle.words.specs.Factors.{join, factors, groups_from}
 use Rattle.words.specs.Tables.{last_factor, last_factors, prefix_groups}
 use Rattle.words.proofs.Below.{word_length}
+use Rattle.words.proofs.Bounded.{le_or_lt}
 use Rattle.words.proofs.Order.{same_true, false_same}
 use Rattle.words.proofs.Factors.{join_factors}
 use Rattle.words.proofs.Groups.{groups_repeat}
@@ -106,6 +110,23 @@ module _ {s : List ℕ} {q size power j : ℕ} (c : Equal s q size power j) wher
         (false_same (last_word s j (last_factor s j)) (last_word s q size)
         (λ e. h (omega (arith, ap length e, long, word_length s (j - last_factor s j) (last_factor s j) (omega (arith, fits))))))
 
+    equal_more : last_factor s j ≡ size → same (last_word s j size) (last_word s q size) ≡ true → Equal s q size (power + 1) (j - size)
+    equal_more f e =
+        let w = last_word s q size in
+        let n : factors (take j s) ≡ factors (take (j - size) s) ++ (w ∷ []) = rw (← same_true (last_word s j size) w e, ← f) (chain_prefix s j l (omega arith)) in
+        let g : 1 + power ≡ power + 1 = omega arith in
+        record {
+          factor = c.factor;
+          some = omega arith;
+          few = omega (arith, fits, f);
+          last = omega (arith, fits, f);
+          at = omega (arith, fits, f);
+          ends = c.ends;
+          parts =
+              c.parts ∙ ap (λ t. t ++ replicate power w) n ∙ append_assoc (factors (take (j - size) s)) (w ∷ []) (replicate power w)
+              ∙ ap (λ t. factors (take (j - size) s) ++ t) (rw g at (replicate-append-replicate 1 power w));
+        }
+
 -- b is whether the bytes of the word that ends at j are those of the one that ends at q, and x the entry that ends at j
 module _ {o : List ℕ} (v : Ranks o) (s : List ℕ) (u : Bytes s) {q size power j x : ℕ} {b : Bool} (c : Equal (ranked o s) q size power j) (l : 0 < j)
     (entry : x ≡ last_factor (ranked o s) j) (k : x ≡ size) (h : b ≡ same (take (j - (j - size)) (drop (j - size) s)) (take (q - (q - size)) (drop (q - size) s)))
@@ -124,22 +145,29 @@ module _ {o : List ℕ} (v : Ranks o) (s : List ℕ) (u : Bytes s) {q size power
     stop_word e = stop_other c l entry (rw (← entry, k) (words ∙ e))
 
     pub equal_turn : b ≡ true → Equal (ranked o s) q size (power + 1) (j - size)
-    equal_turn e =
-        let s' = ranked o s in
-        let w = last_word s' q size in
-        let f : last_factor s' j ≡ size = sym entry ∙ k in
-        let n : factors (take j s') ≡ factors (take (j - size) s') ++ (w ∷ []) =
-        rw (← same_true (last_word s' j size) w (words ∙ e), ← f) (chain_prefix s' j l (omega arith)) in
-        let g : 1 + power ≡ power + 1 = omega arith in
-        let i = fits c l entry in
-        record {
-          factor = c.factor;
-          some = omega arith;
-          few = omega arith;
-          last = omega arith;
-          at = omega arith;
-          ends = c.ends;
-          parts =
-              c.parts ∙ ap (λ t. t ++ replicate power w) n ∙ append_assoc (factors (take (j - size) s')) (w ∷ []) (replicate power w)
-              ∙ ap (λ t. factors (take (j - size) s') ++ t) (rw g at (replicate-append-replicate 1 power w));
-        }
+    equal_turn e = equal_more c l entry (sym entry ∙ k) (words ∙ e)
+
+-- a prefix that is not empty has a last group
+pub record LastOf (s : List ℕ) (q : ℕ) : Type 0 where
+  pub size : ℕ
+  pub power : ℕ
+  pub group : LastGroup s q size power
+
+last_from : {s : List ℕ} {q size power j : ℕ} (n : ℕ) → j ≤ n → Equal s q size power j → LastOf s q
+last_from {size = size} {power = power} zero h c = record { size = size; power = power; group = stop_start c h }
+last_from {s} {q} {size} {power} {j} (suc n) h c = go (λ d. last_from {power = power + 1} n (omega (arith, c.factor)) d) (le_or_lt j 0)
+  where
+    go : (Equal s q size (power + 1) (j - size) → LastOf s q) → (j ≤ 0) ⊎ (0 < j) → LastOf s q
+    go more (inl k) = record { size = size; power = power; group = stop_start c k }
+    go more (inr k) = by_length (eqb (last_factor s j) size) refl
+      where
+        by_word : (b : Bool) → last_factor s j ≡ size → same (last_word s j size) (last_word s q size) ≡ b → LastOf s q
+        by_word false f e = record { size = size; power = power; group = stop_other c k refl (rw f e) }
+        by_word true f e = more (equal_more c k refl f e)
+
+        by_length : (b : Bool) → eqb (last_factor s j) size ≡ b → LastOf s q
+        by_length false e = record { size = size; power = power; group = stop_length c k refl (eqb-false (last_factor s j) size e) }
+        by_length true e = by_word (same (last_word s j size) (last_word s q size)) (eqb-true (last_factor s j) size e) refl
+
+pub last_of : (s : List ℕ) (q : ℕ) → 0 < q → q ≤ length s → LastOf s q
+last_of s q l m = last_from q (omega arith) (equal_start s q (last_factor s q) l m refl)

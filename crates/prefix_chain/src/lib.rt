@@ -2,16 +2,20 @@
 // That the table is right and the row long enough is the caller's concern.
 #![tactic(auto)]
 
-ghost use Rattle.std.specs.Prelude.{◌≡◌, ◌*◌, ◌<◌, ◌≤◌, length, take};
+ghost use Rattle.std.specs.Iterator.{YieldsFirstBy, item_count};
+ghost use Rattle.std.specs.Prelude.{◌≡◌, ◌*◌, ◌<◌, ◌≤◌, length, reverse, take};
 ghost use Rattle.ranks.specs.Inner.{Ranks};
 ghost use Rattle.ranks.specs.Ranks.{ranked};
 ghost use Rattle.rows.specs.Row.{written};
+ghost use Rattle.scan.specs.Group.{group_of};
+ghost use Rattle.scan.specs.Known.{ranks_prop};
 ghost use Rattle.words.specs.Factors.{group_numbers};
 ghost use Rattle.words.specs.Tables.{last_factors, prefix_groups};
 ghost use Rattle.prefix_chain.specs.Last.{LastGroup};
 
 use comparing::agree;
-use scan::Stretch;
+use factoring::write_group;
+use scan::{GroupAt, Stretch};
 
 // The group of factors that ends at q, of the first q symbols.
 fn group_before(s: &[u8], ranks: &[u8], table: &[u16], q: usize) -> Stretch
@@ -22,6 +26,7 @@ fn group_before(s: &[u8], ranks: &[u8], table: &[u16], q: usize) -> Stretch
     let from = q - length;
     let mut power = 1;
     let mut j = from;
+    // no range: it goes word by word as long as they are equal
     while 0 < j {
         if table[j - 1] as usize != length {
             return Stretch { length, power };
@@ -36,19 +41,53 @@ fn group_before(s: &[u8], ranks: &[u8], table: &[u16], q: usize) -> Stretch
     Stretch { length, power }
 }
 
+// Goes over groups from last to first along the chain: the pattern, its ranks, its table of last factors, and where the groups left end.
+#[derive(Drop)]
+struct GroupsBack<'a> {
+    s: &'a [u8],
+    ranks: &'a [u8],
+    table: &'a [u16],
+    end: usize,
+    ghost known: { Ranks ranks.now } by { ranks_prop ranks.now },
+    ghost last: { take (length s.now) table.now ≡ last_factors (ranked ranks.now s.now) },
+    ghost within: { end ≤ length s.now },
+}
+
+impl<'a> Iterator for GroupsBack<'a> {
+    type Item = GroupAt;
+
+    ghost next_gives = { YieldsFirstBy (λ g. group_of g.start g.length g.power) (λ it. reverse (prefix_groups (ranked it.ranks.now it.s.now) it.end)) };
+
+    ghost remaining = { item_count (λ it. reverse (prefix_groups (ranked it.ranks.now it.s.now) it.end)) };
+
+    #[inline(always)]
+    fn next(&mut self) -> Option<GroupAt> {
+        if self.end == 0 {
+            return None;
+        }
+        let Stretch { length, power } = group_before(self.s, self.ranks, self.table, self.end);
+        let start = self.end - power * length;
+        self.end = start;
+        Some(GroupAt {
+            start,
+            length,
+            power,
+        })
+    }
+}
+
 // The number of groups of the first `end` symbols.
 pub fn count_prefix(s: &[u8], ranks: &[u8], table: &[u16], end: usize) -> usize
     requires { Ranks ranks.now × (end ≤ length s.now) × (take (length s.now) table.now ≡ last_factors (ranked ranks.now s.now)) }
     ensures { result ≡ length (prefix_groups (ranked ranks.now s.now) end) }
 {
-    let mut count = 0;
-    let mut rest = end;
-    while 0 < rest {
-        let last = group_before(s, ranks, table, rest);
-        count += 1;
-        rest -= last.power * last.length;
-    }
-    count
+    let groups = GroupsBack {
+        s,
+        ranks,
+        table,
+        end,
+    };
+    groups.count()
 }
 
 // Writes the groups of the first `end` symbols, of which there are `count`, three numbers each, from the last to the first.
@@ -65,13 +104,14 @@ pub fn write_prefix(
     ensures { row.new ≡ written (group_numbers (prefix_groups (ranked ranks.now s.now) end)) row.old }
 {
     let mut at = 3 * count;
-    let mut q = end;
-    while 0 < q {
-        let last = group_before(s, ranks, table, q);
-        q -= last.power * last.length;
+    let groups = GroupsBack {
+        s,
+        ranks,
+        table,
+        end,
+    };
+    for g in groups {
         at -= 3;
-        row[at] = q as u16;
-        row[at + 1] = last.length as u16;
-        row[at + 2] = last.power as u16;
+        write_group(row, at, g.start, g.length, g.power);
     }
 }

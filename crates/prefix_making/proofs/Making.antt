@@ -1,12 +1,10 @@
 -- The prefix table as it is made: one entry by one turn of the scan, and scan after scan.
 use mathlib.Core.List.{List}
-use mathlib.Core.Logic.{◌⊎◌, inl, inr}
 use mathlib.Core.Path.{◌≡◌, refl, ◌∙◌}
 use Prim.Native.Nat.{ℕ, ◌+◌, ◌-◌, ◌%◌, ◌≤◌, ◌<◌}
 use native.Mathlib.Omega.{arith}
 use lib.ListN.{length, set, get_or, length-set}
 use Rattle.words.specs.Demand.{FactorStart}
-use Rattle.words.proofs.Bounded.{le_or_lt}
 use Rattle.words.proofs.Scan.{Stops, scan_start}
 use Rattle.rows.proofs.Fill.{Filled, filled_start, filled_none, filled_up}
 use Rattle.scan.proofs.Next.{turn_same, turn_up}
@@ -57,19 +55,7 @@ module _ {s : List ℕ} {i : ℕ} (q : FactorStart s i) where
         past = λ k a. m.filled.past k a ∙ f.past k a;
       }
 
--- the row has an entry where the scan stands before a place of the pattern
-pub making_inside : {s d row : List ℕ} {i j p stop n : ℕ} → Making s d row i j p → length s ≡ n → j < stop → stop ≤ n → j < length row
-making_inside m e l h = omega (arith, e, l, h, m.room, m.filled.size)
-
 -- the row after another state
-pub making_here : {s d row : List ℕ} {i j p : ℕ} → Making s d row i j p → Making s row row i j p
-making_here m =
-    record {
-      scan = m.scan;
-      filled = record { size = refl; inside = m.filled.inside; before = λ k a. refl; past = λ k a. refl };
-      room = omega (arith, m.room, m.filled.size);
-    }
-
 pub making_on : {s d row row' : List ℕ} {i j j' p p' : ℕ} → Making s d row i j p → Making s row row' i j' p' → Making s d row' i j' p'
 making_on m o =
     record {
@@ -83,18 +69,3 @@ making_on m o =
           };
       room = m.room;
     }
-
--- the next scan's entries, where those before it are made
-pub pass_made : {s d row row' : List ℕ} {i r : ℕ} → Filled (last_to s) (length s) d row 0 i → MadeFrom s row row' i r
-    → Filled (last_to s) (length s) d row' 0 r
-pass_made {s} {d} {row} {row'} {i} {r} g m =
-    record {
-      size = m.size ∙ g.size;
-      inside = λ k a b. go k b (le_or_lt i k);
-      before = λ k a. absurd (omega arith);
-      past = λ k a. m.past k a ∙ g.past k a;
-    }
-  where
-    go : (k : ℕ) → k < r → (i ≤ k) ⊎ (k < i) → get_or row' k 0 ≡ last_to s k
-    go k b (inl l) = m.made k l b
-    go k b (inr l) = m.before k l ∙ g.inside k (omega arith) l

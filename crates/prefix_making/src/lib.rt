@@ -15,6 +15,7 @@ use prefix_making_leaps::make_blocks;
 use symbols::below;
 
 // Writes the entries of one scan from i on, and answers where the next scan starts.
+#[tactic(auto, using(ranks::proofs::Ranked::length_ranked))]
 fn make_from(s: &[u8], ranks: &[u8], table: &mut [u16], i: usize) -> usize
     requires { Ranks ranks.now × FactorStart (ranked ranks.now s.now) i × (length s.now ≤ 65535) × (length s.now ≤ length table.old) }
     ensures { MadeFrom (ranked ranks.now s.now) table.old table.new i result }
@@ -24,26 +25,26 @@ fn make_from(s: &[u8], ranks: &[u8], table: &mut [u16], i: usize) -> usize
     let mut p = 1;
     let mut j = i + 1;
     let mut gap = 8;
+    // no range: how far blocks go is known after them
     while j < n {
         let stop = j + steps(gap, n - j);
-        while j < stop {
-            let x = s[j - p];
-            let y = s[j];
+        for k in j..stop {
+            let x = s[k - p];
+            let y = s[k];
             if x != y {
                 if below(ranks, y, x) {
-                    return j - (j - i) % p;
+                    return k - (k - i) % p;
                 }
-                p = j + 1 - i;
-                table[j] = p as u16;
+                p = k + 1 - i;
+                table[k] = p as u16;
             } else {
-                table[j] = table[j - p];
+                table[k] = table[k - p];
             }
-            j += 1;
         }
-        let m = make_blocks(s, ranks, table, i, j, p);
-        gap = next_gap(gap, 256, j < m.end);
-        p = m.size;
-        j = m.end;
+        let m = make_blocks(s, ranks, table, i, stop, p);
+        gap = next_gap(gap, 256, stop < m.j);
+        p = m.p;
+        j = m.j;
     }
     j - (j - i) % p
 }
@@ -53,6 +54,7 @@ pub fn make_last_factors(s: &[u8], ranks: &[u8], table: &mut [u16])
     ensures { table.new ≡ written (last_factors (ranked ranks.now s.now)) table.old }
 {
     let mut i = 0;
+    // no range: where a scan ends is known after it
     while i < s.len() {
         i = make_from(s, ranks, table, i);
     }

@@ -47,6 +47,3 @@ module _ {s d row row' : List ℕ} {i j : ℕ} (q : FactorStart s i) (l : j + 16
 
 pub back_later : {i j j' p back : ℕ} → Back i j p back → j ≤ j' → Back i j' p back
 back_later b l = record { others = b.others; words = b.words; inside = omega (arith, b.inside) }
-
-pub back_place : {i j p back : ℕ} → Back 0 back p back → i ≤ j → back ≤ j - i → Back i j p back
-back_place b h l = record { others = b.others; words = b.words; inside = omega arith }

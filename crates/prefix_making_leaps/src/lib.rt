@@ -11,7 +11,7 @@ ghost use Rattle.prefix_making_leaps.specs.Making.{Making};
 use above::{above_block, above_end};
 use agreeing::agree_block;
 use entries::{copy_entries, write_lengths};
-use prefix_table::Mark;
+use leaps::Mark;
 
 // How far back sixteen entries are copied from: one word, or as many short ones as do not overlap with the copy.
 fn copied_from(p: usize) -> usize
@@ -30,6 +30,7 @@ fn make_above(s: &[u8], ranks: &[u8], table: &mut [u16], i: usize, from: usize) 
     let c = s[i];
     let end = above_end(s, ranks, from, c);
     let mut j = from;
+    // no range by sixteens: where it stops after whole blocks is the answer
     while 16 <= end - j {
         if !above_block(s, ranks, j, c) {
             return j;
@@ -55,6 +56,7 @@ fn make_again(
     ensures { (from ≤ result) × Making (ranked ranks.now s.now) table.old table.new i result p }
 {
     let mut j = from;
+    // no range by sixteens: where it stops after whole blocks is the answer
     while 16 <= s.len() - j {
         if !agree_block(s, j - back, s, j) {
             return j;
@@ -69,17 +71,16 @@ fn make_again(
 pub fn make_blocks(s: &[u8], ranks: &[u8], table: &mut [u16], i: usize, j: usize, p: usize) -> Mark
     requires { Ranks ranks.now × FactorStart (ranked ranks.now s.now) i × (length s.now ≤ 65535)
         × Making (ranked ranks.now s.now) table.old table.old i j p }
-    ensures { (j ≤ result.end) × Making (ranked ranks.now s.now) table.old table.new i result.end result.size }
+    ensures { (j ≤ result.j) × Making (ranked ranks.now s.now) table.old table.new i result.j result.p }
 {
     if p == j - i {
         let end = make_above(s, ranks, table, i, j);
-        let size = end - i;
-        return Mark { end, size };
+        return Mark { j: end, p: end - i };
     }
     let back = copied_from(p);
     if j - i < back {
-        return Mark { end: j, size: p };
+        return Mark { j, p };
     }
     let end = make_again(s, ranks, table, i, j, p, back);
-    Mark { end, size: p }
+    Mark { j: end, p }
 }

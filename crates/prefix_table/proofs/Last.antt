@@ -2,7 +2,7 @@
 use mathlib.Core.List.{List}
 use mathlib.Core.Logic.{◌⊎◌, inl, inr}
 use mathlib.Core.Path.{◌≡◌, refl, sym, ◌∙◌}
-use Prim.Native.Nat.{ℕ, ◌+◌, ◌-◌, ◌*◌, ◌/◌, ◌%◌, ◌≤◌, ◌<◌}
+use Prim.Native.Nat.{ℕ, ◌+◌, ◌-◌, ◌*◌, ◌/◌, ◌%◌, ◌<◌}
 use native.Mathlib.Nat.{div-add-mod', mod-lt}
 use native.Mathlib.Omega.{arith}
 use lib.ListN.{length, get_or}
@@ -18,9 +18,6 @@ use Rattle.prefix_table.proofs.Start.{start_front, start_below, front_factor}
 
 pub last_table : (s : List ℕ) → Lists (last_factors s) (last_to s) (length s)
 last_table s = record { size = last_factors_length s; entry = last_factors_entry s }
-
-pub rest_fits : (x p : ℕ) {j : ℕ} → x ≤ j → x % p ≤ j
-rest_fits x p h = omega (arith, h, div-add-mod' x p)
 
 -- the scan stops at j: the next one starts after the last whole word before j
 pub scan_next : {s : List ℕ} {i j p : ℕ} → FactorStart s i → Scan s i j p → Stops s j p → Next s i (j - (j - i) % p)

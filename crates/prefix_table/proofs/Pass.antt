@@ -8,7 +8,6 @@ use lib.ListN.{length}
 use Rattle.words.specs.Demand.{FactorStart}
 use Rattle.words.proofs.Bounded.{le_cases}
 use Rattle.words.proofs.Tables.{front_start}
-use Rattle.prefix_table.specs.State.{Next}
 use Rattle.prefix_table.proofs.Start.{front_factor}
 
 -- i is the start of a factor or the end
@@ -22,13 +21,3 @@ reached_start s = record { within = omega arith; start = go (le_cases {a = 0} {b
     go : (0 ≡ length s) ⊎ (0 < length s) → (0 ≡ length s) ⊎ FactorStart s 0
     go (inl e) = inl e
     go (inr l) = inr (front_factor (front_start s) l)
-
-pub reached_next : {s : List ℕ} {i r : ℕ} → Next s i r → Reached s r
-reached_next n = record { within = n.within; start = n.start }
-
-pub reached_factor : {s : List ℕ} {i : ℕ} → Reached s i → i < length s → FactorStart s i
-reached_factor {s} {i} d h = go d.start
-  where
-    go : (i ≡ length s) ⊎ FactorStart s i → FactorStart s i
-    go (inl e) = absurd (omega arith)
-    go (inr q) = q

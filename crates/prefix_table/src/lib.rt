@@ -1,9 +1,2 @@
-// What making and testing the prefix table share: where their scan stands, and with specs/ and proofs/ what holds of the entries along it.
+// What making and testing the prefix table share, with specs/ and proofs/: where their scan stands, and what holds of the entries along it. It has no code.
 #![tactic(auto)]
-
-// Where a scan stands: the place, and the length of its word.
-#[derive(Drop)]
-pub struct Mark {
-    pub end: usize,
-    pub size: usize,
-}

@@ -36,7 +36,8 @@ module _ {s : List ℕ} {i : ℕ} (q : FactorStart s i) (row : List ℕ) where
       pub testing_same_wrong : (get_or row j 0 ≡ get_or row (j - p) 0 → ⊥) → TestedFrom s row i i
       testing_same_wrong w = wrong_at s row i j l (λ e. w (e ∙ sym (same_entry q t.scan l row t.right h)))
 
-  pub tested_from : {j p : ℕ} → Testing s row i j p → Stops s j p → TestedFrom s row i (j - (j - i) % p)
+  pub tested_from : {j p : ℕ} → Testing s row i j p → Stops s j p
+      → (i < j - (j - i) % p) × TestedFrom s row i (j - (j - i) % p)
   tested_from t h =
       let n = scan_next q t.scan h in
-      record { wrong = λ e. absurd (omega (arith, n.later)); right = λ w. (n, λ k a b. t.right k a (omega arith)) }
+      (n.later, record { wrong = λ e. absurd (omega (arith, n.later)); right = λ w. (n, λ k a b. t.right k a (omega arith)) })

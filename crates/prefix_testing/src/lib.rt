@@ -2,7 +2,8 @@
 // That it is long enough is the caller's concern.
 #![tactic(auto)]
 
-ghost use Rattle.std.specs.Prelude.{◌≡◌, ◌≤◌, length, take};
+ghost use Rattle.std.specs.Prelude.{◌≡◌, ◌≤◌, ◌<◌, length, take};
+ghost use Rattle.std.specs.Option.{MatchOption};
 ghost use Rattle.ranks.specs.Inner.{Ranks};
 ghost use Rattle.ranks.specs.Ranks.{ranked};
 ghost use Rattle.words.specs.Demand.{FactorStart};
@@ -15,44 +16,43 @@ use leaps::next_gap;
 use prefix_testing_leaps::test_blocks;
 use symbols::below;
 
-// Tests the entries of one scan from i on, and answers where the next scan starts, or i where an entry differs.
-fn test_from(s: &[u8], ranks: &[u8], table: &[u16], i: usize) -> usize
+// Tests the entries of one scan from i on, and answers where the next scan starts, if none of them is wrong.
+#[tactic(auto, using(ranks::proofs::Ranked::length_ranked))]
+fn test_from(s: &[u8], ranks: &[u8], table: &[u16], i: usize) -> Option<usize>
     requires { Ranks ranks.now × FactorStart (ranked ranks.now s.now) i × (length s.now ≤ length table.now) }
-    ensures { TestedFrom (ranked ranks.now s.now) table.now i result }
+    ensures { MatchOption result (TestedFrom (ranked ranks.now s.now) table.now i i) (λ next. (i < next) × TestedFrom (ranked ranks.now s.now) table.now i next) }
 {
     if table[i] != 1 {
-        return i;
+        return None;
     }
     let n = s.len();
     let mut size = 1;
     let mut end = i + 1;
     let mut gap = 8;
+    // no range: how far blocks go is known after them
     while end < n {
         let stop = end + steps(gap, n - end);
-        while end < stop {
-            let old = s[end - size];
-            let new = s[end];
+        for k in end..stop {
+            let old = s[k - size];
+            let new = s[k];
             if old != new {
                 if below(ranks, new, old) {
-                    return end - (end - i) % size;
+                    return Some(k - (k - i) % size);
                 }
-                size = end + 1 - i;
-                if table[end] as usize != size {
-                    return i;
+                size = k + 1 - i;
+                if table[k] as usize != size {
+                    return None;
                 }
-            } else {
-                if table[end] != table[end - size] {
-                    return i;
-                }
+            } else if table[k] != table[k - size] {
+                return None;
             }
-            end += 1;
         }
-        let m = test_blocks(s, ranks, table, i, end, size);
-        gap = next_gap(gap, 256, end < m.end);
-        size = m.size;
-        end = m.end;
+        let m = test_blocks(s, ranks, table, i, stop, size);
+        gap = next_gap(gap, 256, stop < m.j);
+        size = m.p;
+        end = m.j;
     }
-    end - (end - i) % size
+    Some(end - (end - i) % size)
 }
 
 // Whether the first entries of the table are the lengths of the last factors of the pattern's prefixes.
@@ -61,11 +61,11 @@ pub fn is_last_factors(s: &[u8], ranks: &[u8], table: &[u16]) -> bool
     ensures { result ≡ same (take (length s.now) table.now) (last_factors (ranked ranks.now s.now)) }
 {
     let mut start = 0;
+    // no range: where a scan ends is known after it
     while start < s.len() {
-        let next = test_from(s, ranks, table, start);
-        if next == start {
+        let Some(next) = test_from(s, ranks, table, start) else {
             return false;
-        }
+        };
         start = next;
     }
     true

@@ -10,7 +10,7 @@ ghost use Rattle.prefix_table.specs.State.{Testing};
 use above::{above_block, above_end};
 use agreeing::agree_block;
 use entries::{are_lengths, same_entries};
-use prefix_table::Mark;
+use leaps::Mark;
 
 // Tests entries from `from` on by blocks of bytes that are above the word's first, and answers how far they are right.
 fn test_above(s: &[u8], ranks: &[u8], table: &[u16], i: usize, from: usize) -> usize
@@ -21,6 +21,7 @@ fn test_above(s: &[u8], ranks: &[u8], table: &[u16], i: usize, from: usize) -> u
     let c = s[i];
     let end = above_end(s, ranks, from, c);
     let mut j = from;
+    // no range by sixteens: where it stops after whole blocks is the answer
     while 16 <= end - j {
         if !above_block(s, ranks, j, c) {
             return j;
@@ -40,6 +41,7 @@ fn test_again(s: &[u8], ranks: &[u8], table: &[u16], i: usize, from: usize, p: u
     ensures { (from ≤ result) × Testing (ranked ranks.now s.now) table.now i result p }
 {
     let mut j = from;
+    // no range by sixteens: where it stops after whole blocks is the answer
     while 16 <= s.len() - j {
         if !agree_block(s, j - p, s, j) {
             return j;
@@ -56,13 +58,12 @@ fn test_again(s: &[u8], ranks: &[u8], table: &[u16], i: usize, from: usize, p: u
 pub fn test_blocks(s: &[u8], ranks: &[u8], table: &[u16], i: usize, j: usize, p: usize) -> Mark
     requires { Ranks ranks.now × FactorStart (ranked ranks.now s.now) i × (length s.now ≤ length table.now)
         × Testing (ranked ranks.now s.now) table.now i j p }
-    ensures { (j ≤ result.end) × Testing (ranked ranks.now s.now) table.now i result.end result.size }
+    ensures { (j ≤ result.j) × Testing (ranked ranks.now s.now) table.now i result.j result.p }
 {
     if p == j - i {
         let end = test_above(s, ranks, table, i, j);
-        let size = end - i;
-        return Mark { end, size };
+        return Mark { j: end, p: end - i };
     }
     let end = test_again(s, ranks, table, i, j, p);
-    Mark { end, size: p }
+    Mark { j: end, p }
 }

@@ -1,14 +1,11 @@
--- Blocks in which no eight bytes c begin and no rank is below that of c: one more byte, a block more, and what they give Duval's scan of the ranks.
-use mathlib.Core.Bool.{Bool, true, not, ◌&&◌, ◌||◌}
+-- Blocks in which no eight bytes c begin and no rank is below that of c, and what they give Duval's scan of the ranks.
 use mathlib.Core.List.{List}
 use mathlib.Core.Logic.{◌⊎◌, inl, inr}
 use mathlib.Core.Path.{◌≡◌, sym, ap, ◌∙◌}
 use Prim.Native.Nat.{ℕ, ◌+◌, ◌-◌, ◌≤◌, ◌<◌}
 use native.Mathlib.Omega.{arith}
 use lib.ListN.{length, get_or}
-use lib.Dec.{eqb, leb}
-use borrow.Author.Tests.{eqb-false, leb-true, not-true}
-use Rattle.words.proofs.Bounded.{le_or_lt, le_cases, and_true, or_true}
+use Rattle.words.proofs.Bounded.{le_cases}
 use Rattle.words.proofs.Scan.{Scan, scan_grow}
 use Rattle.ranks.specs.Inner.{Ranks}
 use Rattle.ranks.specs.Ranks.{Bytes, rank, ranked}
@@ -17,53 +14,6 @@ use Rattle.above.specs.Above.{Above}
 use Rattle.rising.specs.Risen.{Run, Breaks, Risen}
 use Rattle.rising.proofs.Rising.{above_below, grow_runs}
 use Rattle.rank_leaps.specs.Broken.{Broken, AtLeast}
-
-module _ {s : List ℕ} {c j : ℕ} where
-  pub broken_none : Broken s c j j
-  broken_none = record { at = λ t h l. absurd (omega arith) }
-
-  pub broken_more : {k m : ℕ} → Broken s c j k → Broken s c k m → Broken s c j m
-  broken_more {k} {m} f g = record { at = λ t h l. go t h l (le_or_lt k t) }
-    where
-      go : (t : ℕ) → j ≤ t → t < m → (k ≤ t) ⊎ (t < k) → (t + 8 ≤ length s) × (get_or s t 0 ≡ c → Breaks s c t)
-      go t h l (inl q) = g.at t q l
-      go t h l (inr q) = f.at t h q
-
-  -- one more place tested; `all` says whether all before it passed, `met` whether the run there breaks
-  pub broken_test : {k : ℕ} (all met : Bool) → k + 8 ≤ length s → (all ≡ true → Broken s c j k) → (met ≡ true → Breaks s c k)
-      → (all && (not (eqb (get_or s k 0) c) || met)) ≡ true → Broken s c j (k + 1)
-  broken_test {k} all met w g f e =
-      let (p, q) = and_true all (not (eqb (get_or s k 0) c) || met) e in
-      record { at = λ t h l. go t h (le_cases {a = t} {b = k} (omega arith)) (g p) (here (or_true (not (eqb (get_or s k 0) c)) met q)) }
-    where
-      here : (not (eqb (get_or s k 0) c) ≡ true) ⊎ (met ≡ true) → get_or s k 0 ≡ c → Breaks s c k
-      here (inl n) o = absurd (eqb-false (get_or s k 0) c (not-true (eqb (get_or s k 0) c) n) o)
-      here (inr n) o = f n
-
-      go : (t : ℕ) → j ≤ t → (t ≡ k) ⊎ (t < k) → Broken s c j k → (get_or s k 0 ≡ c → Breaks s c k) → (t + 8 ≤ length s) × (get_or s t 0 ≡ c → Breaks s c t)
-      go t h (inl q) r l = rw q (w, l)
-      go t h (inr q) r l = r.at t h q
-
-module _ {s : List ℕ} {d j : ℕ} where
-  pub least_none : AtLeast s d j j
-  least_none = record { at = λ t h l. absurd (omega arith) }
-
-  pub least_more : {k m : ℕ} → AtLeast s d j k → AtLeast s d k m → AtLeast s d j m
-  least_more {k} {m} f g = record { at = λ t h l. go t h l (le_or_lt k t) }
-    where
-      go : (t : ℕ) → j ≤ t → t < m → (k ≤ t) ⊎ (t < k) → d ≤ get_or s t 0
-      go t h l (inl q) = g.at t q l
-      go t h l (inr q) = f.at t h q
-
-  -- one more number tested; `all` says whether all before it passed
-  pub least_test : {k : ℕ} (all : Bool) → (all ≡ true → AtLeast s d j k) → (all && leb d (get_or s k 0)) ≡ true → AtLeast s d j (k + 1)
-  least_test {k} all g e =
-      let (p, q) = and_true all (leb d (get_or s k 0)) e in
-      record { at = λ t h l. go t h (le_cases {a = t} {b = k} (omega arith)) (g p) (leb-true d (get_or s k 0) q) }
-    where
-      go : (t : ℕ) → j ≤ t → (t ≡ k) ⊎ (t < k) → AtLeast s d j k → d ≤ get_or s k 0 → d ≤ get_or s t 0
-      go t h (inl q) r l = rw q l
-      go t h (inr q) r l = r.at t h q
 
 -- bytes that are c have the rank of c, and no others
 module _ (o s : List ℕ) (c : ℕ) (v : Ranks o) (bytes : Bytes s) (byte : c < 256) where

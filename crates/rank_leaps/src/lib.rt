@@ -10,7 +10,6 @@ ghost use Rattle.rank_leaps.specs.Broken.{Broken, AtLeast};
 
 use above::ranks_above;
 use rising::{breaks, last_other};
-use symbols::wide;
 
 // Whether no eight bytes c begin at one of the sixteen places from j on.
 fn broken_block(s: &[u8], j: usize, c: u8) -> bool
@@ -19,22 +18,22 @@ fn broken_block(s: &[u8], j: usize, c: u8) -> bool
 {
     let mut all = true;
     for u in 0..16 {
-        let x = s[j + u];
-        all = all & ((x != c) | breaks(s, j + u, c));
+        all &= (s[j + u] != c) | breaks(s, j + u, c);
     }
     all
 }
 
 // Whether the ranks of the sixteen bytes from j on are all d or above.
+// No closure shared with `above`'s `above_ranks`: it would bring a third definition, beside `Above` and `AtLeast`, for a loop of three lines.
 fn least_ranks(s: &[u8], ranks: &[u8], j: usize, d: u8) -> bool
     requires { (length ranks.now ≡ 256) × (j + 16 ≤ length s.now) }
     ensures { result ≡ true → AtLeast (ranked ranks.now s.now) d j (j + 16) }
 {
     let mut all = true;
     for u in 0..16 {
-        let at = wide(s[j + u]);
+        let at = usize::from(s[j + u]);
         let x = ranks[at];
-        all = all & (d <= x);
+        all &= d <= x;
     }
     all
 }
@@ -44,23 +43,18 @@ fn ranks_run(s: &[u8], ranks: &[u8], j: usize, c: u8) -> usize
     requires { (length ranks.now ≡ 256) × (j ≤ length s.now) }
     ensures { (j ≤ result) × (result ≤ length s.now) × Broken s.now c j result × AtLeast (ranked ranks.now s.now) (rank ranks.now c) j result }
 {
-    let at = wide(c);
-    let d = ranks[at];
-    let mut k = j;
-    while 23 <= s.len() - k {
-        if !broken_block(s, k, c) {
+    let d = ranks[usize::from(c)];
+    for k in (j..s.len()).step_by(16) {
+        if s.len() - k < 23 || !broken_block(s, k, c) || !least_ranks(s, ranks, k, d) {
             return k;
         }
-        if !least_ranks(s, ranks, k, d) {
-            return k;
-        }
-        k += 16;
     }
-    k
+    s.len()
 }
 
 // Where the Lyndon word from i to j, of eight bytes or more, ends after it has grown over blocks of ranks above its first, or, where the word begins
 // with eight bytes c, over blocks in which no eight begin and no rank is below.
+#[tactic(auto, using(ranks::proofs::Ranked::length_ranked))]
 pub fn grow_ranks(s: &[u8], ranks: &[u8], i: usize, j: usize) -> usize
     requires { Ranks ranks.now × (length ranks.now ≡ 256) × (i + 8 ≤ j) × Scan (ranked ranks.now s.now) i j (j - i) }
     ensures { (j ≤ result) × Scan (ranked ranks.now s.now) i result (result - i) }

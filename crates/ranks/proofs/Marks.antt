@@ -14,7 +14,7 @@ use Rattle.words.specs.Bounded.{every}
 use Rattle.words.proofs.Bounded.{le_cases, and_true, true_false, every_true, true_every, length_table}
 use Rattle.rows.proofs.Fill.{set_entry}
 use Rattle.ranks.specs.Ranks.{Order, is_order, byte_order, times}
-use Rattle.ranks.specs.Inner.{OrderTested}
+use Rattle.ranks.specs.Inner.{Handed}
 use Rattle.ranks.proofs.Ranked.{ranked_none, byte_ranked, order_ranks, no_ranks}
 use Rattle.ranks.proofs.Times.{Counts, here, other, counts, times_append, times_once, times_front, total_all, all_ones}
 
@@ -131,28 +131,24 @@ byte_order_lem =
     (record { size = length_table (λ b. b) 256; once = λ r h. times_once (λ b. b) 256 r r h refl (λ k l q. sym q) })
 
 -- what is told of the ranks
-take_none : (o : List ℕ) → take 0 o ≡ []
-take_none [] = refl
-take_none (x ∷ o) = refl
-
-pub tested_none : (o : List ℕ) → false ≡ is_order o → OrderTested o false 0
-tested_none o e = record { is = e; within = omega arith; ranks = rw (take_none o) no_ranks; same = λ t. absurd (true_false t refl) }
-
-pub tested_plain : (o : List ℕ) → o ≡ byte_order → OrderTested o true 0
-tested_plain o e =
+pub handed_none : (o : List ℕ) → o ≡ byte_order → Handed o []
+handed_none o e =
     record {
-      is = sym (ap is_order e ∙ byte_order_lem);
-      within = omega arith;
-      ranks = rw (take_none o) no_ranks;
-      same = λ t s h. rw (take_none o, e) (ranked_none s ∙ sym (byte_ranked s h));
+      is = ap is_order e ∙ byte_order_lem;
+      front = none o;
+      known = no_ranks;
+      same = λ s h. rw e (ranked_none s ∙ sym (byte_ranked s h));
     }
+  where
+    none : (o : List ℕ) → [] ≡ take 0 o
+    none [] = refl
+    none (x ∷ o) = refl
 
-pub tested_order : (o : List ℕ) → length o ≡ 256 → true ≡ is_order o → OrderTested o true 256
-tested_order o size e =
-    let whole : take 256 o ≡ o = take_all 256 o (omega (arith, size)) in
+pub handed_all : (o : List ℕ) → length o ≡ 256 → true ≡ is_order o → Handed o o
+handed_all o size e =
     record {
-      is = e;
-      within = omega (arith, size);
-      ranks = rw whole (order_ranks (order_true o (sym e)));
-      same = λ t s h. rw whole;
+      is = sym e;
+      front = sym (take_all (length o) o (omega arith));
+      known = order_ranks (order_true o (sym e));
+      same = λ s h. refl;
     }

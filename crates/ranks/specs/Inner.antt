@@ -7,12 +7,12 @@ pub record Ranks (ranks : List ℕ) : Type 0 where
   pub size : (length ranks ≡ 0) ⊎ (length ranks ≡ 256)
   pub apart : (a b : ℕ) → a < 256 → b < 256 → rank ranks a ≡ rank ranks b → a ≡ b
 
--- Whether it is an order, and how many of its ranks are handed down: they rank every pattern as it does.
-pub record OrderTested (order : List ℕ) (told : Bool) (used : ℕ) : Type 0 where
-  pub is : told ≡ is_order order
-  pub within : used ≤ length order
-  pub ranks : Ranks (take used order)
-  pub same : told ≡ true → (s : List ℕ) → Bytes s → ranked (take used order) s ≡ ranked order s
+-- The ranks that are handed down of a list that is an order: its own, or none, and they rank every pattern as it does.
+pub record Handed (order ranks : List ℕ) : Type 0 where
+  pub is : is_order order ≡ true
+  pub front : ranks ≡ take (length ranks) order
+  pub known : Ranks ranks
+  pub same : (s : List ℕ) → Bytes s → ranked ranks s ≡ ranked order s
 
 -- Which of two bytes has the smaller rank: no is said of different bytes only where the second has.
 pub record Below (ranks : List ℕ) (x y : ℕ) (r : Bool) : Type 0 where

@@ -8,17 +8,16 @@ ghost use Rattle.memo.specs.Memo.{Alike};
 ghost use Rattle.agreeing.specs.Agrees.{Agrees};
 ghost use Rattle.reach_compare.specs.Beside.{Compares, Beside};
 
-use rows::shorter;
 use symbols::below;
 
-// How far a word agrees with the next one, and whether it is smaller.
-#[derive(Drop)]
+// How far a word agrees with the next one, and whether it is smaller. No Option: both are told of every two words.
+#[derive(Clone, Copy)]
 pub struct Step {
     pub e: usize,
     pub up: bool,
 }
 
-// The word from i up to j beside the next one, of y bytes; the shorter of the two has `len`, and the first `known` bytes agree, fewer than these.
+// The word from i up to j beside the next one, of y bytes; the shorter of the two has `len`, and the first `known` bytes of these agree.
 fn beside_from(
     s: &[u8],
     ranks: &[u8],
@@ -28,11 +27,10 @@ fn beside_from(
     len: usize,
     known: usize,
 ) -> Step
-    requires { Ranks ranks.now × Compares s.now i j y len × (known < len) × Agrees s.now i s.now j known }
+    requires { Ranks ranks.now × Compares s.now i j y len × (known ≤ len) × Agrees s.now i s.now j known }
     ensures { Beside (ranked ranks.now s.now) i j y result.e result.up }
 {
-    let mut e = known;
-    loop {
+    for e in known..len {
         let x = s[i + e];
         let z = s[j + e];
         if x != z {
@@ -41,10 +39,10 @@ fn beside_from(
                 up: below(ranks, x, z),
             };
         }
-        e += 1;
-        if e == len {
-            return Step { e, up: e < y };
-        }
+    }
+    Step {
+        e: len,
+        up: len < y,
     }
 }
 
@@ -61,7 +59,7 @@ pub fn beside_anew(s: &[u8], ranks: &[u8], i: usize, j: usize, y: usize) -> Step
             up: below(ranks, c, d),
         };
     }
-    beside_from(s, ranks, i, j, y, shorter(j - i, y), 0)
+    beside_from(s, ranks, i, j, y, (j - i).min(y), 0)
 }
 
 // The same where the first `known` bytes agree.
@@ -72,12 +70,6 @@ pub fn beside(s: &[u8], ranks: &[u8], i: usize, j: usize, y: usize, known: usize
     if known == 0 {
         return beside_anew(s, ranks, i, j, y);
     }
-    let len = shorter(j - i, y);
-    if len <= known {
-        return Step {
-            e: len,
-            up: len < y,
-        };
-    }
-    beside_from(s, ranks, i, j, y, len, known)
+    let len = (j - i).min(y);
+    beside_from(s, ranks, i, j, y, len, known.min(len))
 }

@@ -10,6 +10,7 @@ ghost use Rattle.words.specs.Tables.{longest_at, lyndon_array};
 ghost use Rattle.memo.specs.Memo.{Memo};
 ghost use Rattle.reach_table.specs.Reached.{EntriesFrom};
 
+use memo::{Kept, SLOTS};
 use reach_table::{allowance, longest_at, merge_at};
 
 // Makes entries by comparison alone, from the right, for as long as that is cheap: the place from which on they are made.
@@ -17,30 +18,25 @@ fn make_plain(s: &[u8], ranks: &[u8], table: &mut [u16]) -> usize
     requires { Ranks ranks.now × (length s.now ≤ 65535) × (length s.now ≤ length table.old) }
     ensures { (result ≤ length s.now) × Filled (longest_at (ranked ranks.now s.now)) (length s.now) table.old table.new result (length s.now) }
 {
-    let mut made = s.len();
     let mut budget = allowance(s);
-    while 0 < made {
-        made -= 1;
-        let m = merge_at(s, ranks, table, made);
-        let l = m.length;
+    for i in (0..s.len()).rev() {
+        let m = merge_at(s, ranks, table, i);
+        table[i] = m.length as u16;
         let cost = m.last / 16;
-        table[made] = l as u16;
         if budget < cost {
-            return made;
+            return i;
         }
         budget -= cost;
     }
-    made
+    0
 }
 
 // Makes the entries before `from`, with a true memo.
-fn make_by(s: &[u8], ranks: &[u8], table: &mut [u16], from: usize, memo: &mut [u16])
+fn make_by(s: &[u8], ranks: &[u8], table: &mut [u16], from: usize, memo: &mut [Kept])
     requires { Ranks ranks.now × (length s.now ≤ 65535) × (from ≤ length s.now) × EntriesFrom (ranked ranks.now s.now) table.old from × Memo (ranked ranks.now s.now) memo.old }
     ensures { Filled (longest_at (ranked ranks.now s.now)) (length s.now) table.old table.new 0 (length s.now) }
 {
-    let mut i = from;
-    while 0 < i {
-        i -= 1;
+    for i in (0..from).rev() {
         let l = longest_at(s, ranks, table, i, memo);
         table[i] = l as u16;
     }
@@ -51,7 +47,7 @@ fn make_rest(s: &[u8], ranks: &[u8], table: &mut [u16], from: usize)
     requires { Ranks ranks.now × (length s.now ≤ 65535) × (from ≤ length s.now) × EntriesFrom (ranked ranks.now s.now) table.old from }
     ensures { Filled (longest_at (ranked ranks.now s.now)) (length s.now) table.old table.new 0 (length s.now) }
 {
-    let mut memo = [0u16; 1024];
+    let mut memo = [Kept::NONE; SLOTS];
     make_by(s, ranks, table, from, &mut memo);
 }
 

@@ -10,12 +10,11 @@ ghost use Rattle.words.specs.Tables.{longest_at};
 ghost use Rattle.memo.specs.Memo.{Memo};
 ghost use Rattle.reach_table.specs.Reached.{EntriesFrom, Reached};
 
-use memo::{best, entry, keep, recall};
+use memo::{Kept, best, entry, keep, recall};
 use reach_compare::{beside, beside_anew};
-use rows::shorter;
 
 // The entry of a place, and how many bytes agreed where its word ended.
-#[derive(Drop)]
+#[derive(Clone, Copy)]
 pub struct Merged {
     pub length: usize,
     pub last: usize,
@@ -27,6 +26,7 @@ pub fn merge_at(s: &[u8], ranks: &[u8], table: &[u16], i: usize) -> Merged
     ensures { result.length ≡ longest_at (ranked ranks.now s.now) i }
 {
     let mut j = i + 1;
+    // no range: how long each word is, its entry says
     while j < s.len() {
         let y = entry(table, j);
         let step = beside_anew(s, ranks, i, j, y);
@@ -46,7 +46,7 @@ pub fn merge_at(s: &[u8], ranks: &[u8], table: &[u16], i: usize) -> Merged
 }
 
 // The same with a memo: what is known of the last word taken in, which starts at i + d, tells how far i agrees with the next.
-pub fn longest_at(s: &[u8], ranks: &[u8], table: &[u16], i: usize, memo: &mut [u16]) -> usize
+pub fn longest_at(s: &[u8], ranks: &[u8], table: &[u16], i: usize, memo: &mut [Kept]) -> usize
     requires { Ranks ranks.now × (i < length s.now) × EntriesFrom (ranked ranks.now s.now) table.now (i + 1) × Memo (ranked ranks.now s.now) memo.old }
     ensures { Reached (ranked ranks.now s.now) i memo.new result }
 {
@@ -54,9 +54,10 @@ pub fn longest_at(s: &[u8], ranks: &[u8], table: &[u16], i: usize, memo: &mut [u
     let mut d = 0;
     let mut edge = 0;
     let mut shared = 0;
+    // no range: how long each word is, its entry says
     while j < s.len() {
         let y = entry(table, j);
-        let next = beside(s, ranks, i, j, y, shorter(edge, shared));
+        let next = beside(s, ranks, i, j, y, edge.min(shared));
         let e = next.e;
         if !next.up {
             keep(s, ranks, memo, i, e, d, best(shared, edge, e));

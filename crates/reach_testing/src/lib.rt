@@ -1,7 +1,8 @@
 // A row of any content tested against the reach table of a pattern, in place and from the right. That the row is long enough is the caller's concern.
 #![tactic(auto)]
 
-ghost use Rattle.std.specs.Prelude.{◌≡◌, ◌≤◌, length, take};
+ghost use Rattle.std.specs.Prelude.{true, false, ◌≡◌, ℕ, ◌≤◌, length, take};
+ghost use Rattle.std.specs.Option.{MatchOption};
 ghost use Rattle.ranks.specs.Inner.{Ranks};
 ghost use Rattle.ranks.specs.Ranks.{ranked};
 ghost use Rattle.words.specs.Order.{same};
@@ -10,57 +11,37 @@ ghost use Rattle.memo.specs.Memo.{Memo};
 ghost use Rattle.reach_table.specs.Reached.{EntriesFrom};
 ghost use Rattle.reach_testing.specs.Tested.{TestedTo};
 
-use memo::entry;
+use memo::{Kept, SLOTS, entry};
 use reach_table::{allowance, longest_at, merge_at};
 
-// How far entries were tested, and whether the one there is wrong.
-#[derive(Drop)]
-struct Tested {
-    left: usize,
-    wrong: bool,
-}
-
-// Tests entries by comparison alone, from the right, for as long as that is cheap.
-fn test_plain(s: &[u8], ranks: &[u8], table: &[u16]) -> Tested
+// Tests entries by comparison alone, from the right, for as long as that is cheap: the place from which on they are right, if none is wrong.
+fn test_plain(s: &[u8], ranks: &[u8], table: &[u16]) -> Option<usize>
     requires { Ranks ranks.now × (length s.now ≤ length table.now) }
-    ensures { TestedTo (ranked ranks.now s.now) table.now result.left result.wrong }
+    ensures { MatchOption result ((wrong : ℕ) × TestedTo (ranked ranks.now s.now) table.now wrong true) (λ left. TestedTo (ranked ranks.now s.now) table.now left false) }
 {
-    let mut tested = s.len();
     let mut budget = allowance(s);
-    while 0 < tested {
-        tested -= 1;
-        let m = merge_at(s, ranks, table, tested);
-        let cost = m.last / 16;
-        if entry(table, tested) != m.length {
-            return Tested {
-                left: tested,
-                wrong: true,
-            };
+    for i in (0..s.len()).rev() {
+        let m = merge_at(s, ranks, table, i);
+        if entry(table, i) != m.length {
+            return None;
         }
+        let cost = m.last / 16;
         if budget < cost {
-            return Tested {
-                left: tested,
-                wrong: false,
-            };
+            return Some(i);
         }
         budget -= cost;
     }
-    Tested {
-        left: tested,
-        wrong: false,
-    }
+    Some(0)
 }
 
 // Whether the entries before `from` are right, with a true memo, where those from there on are.
-fn test_by(s: &[u8], ranks: &[u8], table: &[u16], from: usize, memo: &mut [u16]) -> bool
+fn test_by(s: &[u8], ranks: &[u8], table: &[u16], from: usize, memo: &mut [Kept]) -> bool
     requires { Ranks ranks.now × (from ≤ length s.now) × EntriesFrom (ranked ranks.now s.now) table.now from × Memo (ranked ranks.now s.now) memo.old }
     ensures { result ≡ same (take (length s.now) table.now) (lyndon_array (ranked ranks.now s.now)) }
 {
-    let mut left = from;
-    while 0 < left {
-        left -= 1;
-        let l = longest_at(s, ranks, table, left, memo);
-        if entry(table, left) != l {
+    for i in (0..from).rev() {
+        let l = longest_at(s, ranks, table, i, memo);
+        if entry(table, i) != l {
             return false;
         }
     }
@@ -72,7 +53,7 @@ fn test_rest(s: &[u8], ranks: &[u8], table: &[u16], from: usize) -> bool
     requires { Ranks ranks.now × (from ≤ length s.now) × EntriesFrom (ranked ranks.now s.now) table.now from }
     ensures { result ≡ same (take (length s.now) table.now) (lyndon_array (ranked ranks.now s.now)) }
 {
-    let mut memo = [0u16; 1024];
+    let mut memo = [Kept::NONE; SLOTS];
     test_by(s, ranks, table, from, &mut memo)
 }
 
@@ -81,12 +62,11 @@ pub fn is_lyndon_array(s: &[u8], ranks: &[u8], table: &[u16]) -> bool
     requires { Ranks ranks.now × (length s.now ≤ length table.now) }
     ensures { result ≡ same (take (length s.now) table.now) (lyndon_array (ranked ranks.now s.now)) }
 {
-    let t = test_plain(s, ranks, table);
-    if t.wrong {
+    let Some(left) = test_plain(s, ranks, table) else {
         return false;
-    }
-    if t.left == 0 {
+    };
+    if left == 0 {
         return true;
     }
-    test_rest(s, ranks, table, t.left)
+    test_rest(s, ranks, table, left)
 }

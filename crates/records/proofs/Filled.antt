@@ -1,10 +1,10 @@
 -- The laws by which a loop fills a row with groups.
 use mathlib.Core.Path.{◌≡◌, refl, ap, ◌∙◌}
 use mathlib.Core.List.{List, [], ◌∷◌, ◌++◌}
-use Prim.Native.Nat.{ℕ, zero, suc, ◌+◌, ◌*◌, ◌≤◌, ◌<◌}
+use Prim.Native.Nat.{ℕ, zero, suc, ◌+◌, ◌*◌, ◌<◌}
 use native.Mathlib.Nat.{le_of_suc-le-suc, not-suc-le-zero}
 use native.Mathlib.Omega.{arith}
-use lib.ListN.{length, get_or, drop, set, length-drop, length-append}
+use lib.ListN.{length, get_or, drop, set}
 use Rattle.records.specs.declared.Group.{Group}
 use Rattle.records.specs.Groups.{group_at, groups_of, filled}
 
@@ -32,15 +32,3 @@ store (suc i) (a ∷ b ∷ c ∷ ns) (y ∷ ys) n h =
 pub one_filled : (i : ℕ) (ns : List ℕ) (row : List Group) → 3 * i + 2 < length ns → i < length row → set (filled i ns row) i (group_at i ns) ≡ filled (i + 1) ns row
 unfolding filled
 one_filled i ns row n h = let e : suc i ≡ i + 1 = omega arith in store i ns row n h ∙ ap (λ (k : ℕ). groups_of k ns ++ drop k row) e
-
-count : (k : ℕ) (ns : List ℕ) → 3 * k ≤ length ns → length (groups_of k ns) ≡ k
-count zero ns h = refl
-count (suc k) [] h = absurd (omega arith)
-count (suc k) (a ∷ []) h = absurd (omega arith)
-count (suc k) (a ∷ b ∷ []) h = absurd (omega arith)
-count (suc k) (a ∷ b ∷ c ∷ ns) h = ap suc (count k ns (omega arith))
-
--- the row is as long as it was
-pub length_filled : (k : ℕ) (ns : List ℕ) (row : List Group) → 3 * k ≤ length ns → k ≤ length row → length (filled k ns row) ≡ length row
-unfolding filled
-length_filled k ns row n h = omega (arith, length-append (groups_of k ns) (drop k row), count k ns n, length-drop k row)

@@ -7,7 +7,7 @@ ghost use Rattle.records.specs.Groups.{group_at, filled};
 
 // A group of equal neighbouring factors: its start, the length of one factor, and how many there are.
 #[repr(C)]
-#[derive(Drop)]
+#[derive(Clone, Copy)]
 pub struct Group {
     pub start: u16,
     pub length: u16,
@@ -31,9 +31,7 @@ pub fn store_all(row: &mut [Group], numbers: &[u16], count: usize)
     requires { (count ≤ length row.old) × (3 * count ≤ length numbers.now) }
     ensures { row.new ≡ filled count numbers.now row.old }
 {
-    let mut i = 0;
-    while i < count {
+    for i in 0..count {
         row[i] = group_at(numbers, i);
-        i += 1;
     }
 }

@@ -13,9 +13,9 @@ fn each_call(rt: &impl Print, pattern: &[u8], order: &[u8], table: &mut [u16]) -
     calls::longest_word(rt, pattern, order)?;
     calls::is_lyndon(rt, pattern, order)?;
     calls::least_rotation(rt, pattern, order)?;
-    lyndon_tables::last_factors(pattern, order, table);
+    let _ = lyndon_tables::last_factors(pattern, order, table);
     calls::factor_prefix(rt, pattern, order, table, pattern.len(), 4)?;
-    lyndon_tables::lyndon_array(pattern, order, table);
+    let _ = lyndon_tables::lyndon_array(pattern, order, table);
     calls::factor_suffix(rt, pattern, order, table, 0, 4)
 }
 

@@ -1,6 +1,6 @@
 // Refusal 5: a table that is shorter than the pattern, or one of whose first n entries is wrong, though the answer may not need it.
-use show::calls;
 use show::calls::OLD;
+use show::{calls, changed};
 use std::io;
 
 // P11's tables.
@@ -39,52 +39,27 @@ fn swapped(rt: &impl Print, s: &[u8], order: &[u8]) -> io::Result<()> {
     calls::factor_suffix(rt, s, order, &LAST, 1, 9)
 }
 
-// One entry of the table set to a value that it must not have.
-fn prefix(
-    rt: &impl Print,
-    s: &[u8],
-    order: &[u8],
-    at: usize,
-    value: u16,
-    end: usize,
-) -> io::Result<()> {
-    let mut table = LAST;
-    if at < 13 {
-        table[at] = value;
-        calls::factor_prefix(rt, s, order, &table, end, 6)?;
-    }
-    Ok(())
+// One entry of the table set to a value that it must not have: the first, one in the middle and the last.
+fn prefixes(rt: &impl Print, s: &[u8], order: &[u8]) -> io::Result<()> {
+    calls::factor_prefix(rt, s, order, &changed(LAST, 0, 2), 11, 6)?;
+    calls::factor_prefix(rt, s, order, &changed(LAST, 6, 1), 11, 6)?;
+    calls::factor_prefix(rt, s, order, &changed(LAST, 12, 12), 11, 6)?;
+    calls::factor_prefix(rt, s, order, &changed(LAST, 12, 0), 11, 6)?;
+    calls::factor_prefix(rt, s, order, &changed(LAST, 12, 65535), 0, 6)
 }
 
-fn suffix(
-    rt: &impl Print,
-    s: &[u8],
-    order: &[u8],
-    at: usize,
-    value: u16,
-    start: usize,
-) -> io::Result<()> {
-    let mut table = REACH;
-    if at < 13 {
-        table[at] = value;
-        calls::factor_suffix(rt, s, order, &table, start, 9)?;
-    }
-    Ok(())
+fn suffixes(rt: &impl Print, s: &[u8], order: &[u8]) -> io::Result<()> {
+    calls::factor_suffix(rt, s, order, &changed(REACH, 0, 12), 1, 9)?;
+    calls::factor_suffix(rt, s, order, &changed(REACH, 6, 2), 1, 9)?;
+    calls::factor_suffix(rt, s, order, &changed(REACH, 12, 2), 1, 9)?;
+    calls::factor_suffix(rt, s, order, &changed(REACH, 12, 0), 1, 9)?;
+    calls::factor_suffix(rt, s, order, &changed(REACH, 0, 65535), 13, 9)
 }
 
-// The first entry, one in the middle and the last.
 fn wrong(rt: &impl Print, s: &[u8], order: &[u8]) -> io::Result<()> {
     show::heading(rt, b"tables: one wrong entry")?;
-    prefix(rt, s, order, 0, 2, 11)?;
-    prefix(rt, s, order, 6, 1, 11)?;
-    prefix(rt, s, order, 12, 12, 11)?;
-    prefix(rt, s, order, 12, 0, 11)?;
-    prefix(rt, s, order, 12, 65535, 0)?;
-    suffix(rt, s, order, 0, 12, 1)?;
-    suffix(rt, s, order, 6, 2, 1)?;
-    suffix(rt, s, order, 12, 2, 1)?;
-    suffix(rt, s, order, 12, 0, 1)?;
-    suffix(rt, s, order, 0, 65535, 13)
+    prefixes(rt, s, order)?;
+    suffixes(rt, s, order)
 }
 
 pub(crate) fn run(rt: &impl Print, order: &[u8]) -> io::Result<()> {

@@ -6,7 +6,8 @@ use Prim.Native.Nat.{ℕ, zero, suc, ◌≤◌, ◌<◌}
 use native.Mathlib.Omega.{arith}
 use lib.ListN.{length, take}
 use borrow.Author.Tests.{lt-ltb, le-ltb}
-use Rattle.ranks.specs.Inner.{OrderTested}
+use Rattle.ranks.specs.Inner.{Handed}
+use Rattle.ranks.specs.Ranks.{is_order}
 use Rattle.refusals.specs.Refusals.{Refusal, first_of, max_pattern, max_wanted, not_order, pattern_too_long, past_end, not_table, too_short, wanted_too_long}
 use Rattle.words.specs.Order.{same}
 
@@ -52,18 +53,15 @@ pub not_wanted_long : (t : List ℕ) {rs : List Refusal} {k : ℕ} → length t 
 not_wanted_long t h f = passes (le-ltb max_wanted (length t) h) f
 
 -- refusal 13, by what the test of an order tells
-module _ {order : List ℕ} {told : Bool} {used : ℕ} (t : OrderTested order told used) where
-  pub not_order_lem : {rs : List Refusal} → told ≡ false → First (not_order order ∷ rs) 13
-  not_order_lem e = holds {r = not_order order} (rw (← t.is, e))
+pub not_order_lem : (order : List ℕ) {rs : List Refusal} → is_order order ≡ false → First (not_order order ∷ rs) 13
+not_order_lem order e = holds {r = not_order order} (rw e)
 
-  pub an_order : {rs : List Refusal} {k : ℕ} → told ≡ true → First rs k → First (not_order order ∷ rs) k
-  an_order e f = passes {r = not_order order} (rw (← t.is, e)) f
+module _ {order ranks : List ℕ} (t : Handed order ranks) where
+  pub an_order : {rs : List Refusal} {k : ℕ} → First rs k → First (not_order order ∷ rs) k
+  an_order f = passes {r = not_order order} (rw t.is) f
 
-  pub first_not_order : (rs : List Refusal) → told ≡ false → first_of (not_order order ∷ rs) ≡ 13
-  first_not_order rs e = first_is (not_order_lem {rs = rs} e)
-
-  pub first_order : (rs : List Refusal) → told ≡ true → first_of (not_order order ∷ rs) ≡ first_of rs
-  first_order rs e = first_passes (not_order order) rs (rw (← t.is, e))
+  pub first_order : (rs : List Refusal) → first_of (not_order order ∷ rs) ≡ first_of rs
+  first_order rs = first_passes (not_order order) rs (rw t.is)
 
 -- refusal 5, of a table with n entries
 module _ (table row : List ℕ) (n : ℕ) (size : length table ≡ n) where

@@ -1,4 +1,5 @@
--- Reading order: Refusals, Filled, Interface.
+-- Reading order: Refusals, Answers, Filled, Interface.
 pub mod Refusals
+pub mod Answers
 pub mod Filled
 pub mod Interface

@@ -85,5 +85,4 @@ not_order order = record { number = 13; holds = not (is_order order) }
 -- The refusals of an edit that need no result: 1 to 5.
 abbrev pub edit_refusals : List ℕ → List ℕ → List ℕ → ℕ → ℕ → List ℕ → List Refusal
 edit_refusals s array last from to b =
-    pattern_too_long s ∷ no_stretch s from to ∷ block_too_long b ∷ edited_too_long s from to b
-    ∷ not_table (lyndon_array s) array ∷ not_table (last_factors s) last ∷ []
+    pattern_too_long s ∷ no_stretch s from to ∷ block_too_long b ∷ edited_too_long s from to b ∷ not_table (lyndon_array s) array ∷ not_table (last_factors s) last ∷ []

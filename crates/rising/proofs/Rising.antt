@@ -1,67 +1,22 @@
 -- Bytes from which on a pattern is greater than a word that begins with c: one more, a block more, and what they give Duval's scan.
-use mathlib.Core.Bool.{Bool, true, false, not, ◌&&◌, ◌||◌}
 use mathlib.Core.List.{List}
 use mathlib.Core.Logic.{◌⊎◌, inl, inr}
 use mathlib.Core.Path.{◌≡◌, refl, sym, ap, ◌∙◌}
 use Prim.Native.Nat.{ℕ, zero, suc, ◌+◌, ◌-◌, ◌≤◌, ◌<◌}
 use native.Mathlib.Omega.{arith}
 use lib.ListN.{length, get_or}
-use lib.Dec.{eqb, ltb}
-use borrow.Author.Tests.{eqb-true, eqb-false, ltb-true, not-true, not-false}
-use Rattle.words.proofs.Bounded.{le_or_lt, le_cases, and_true, or_true, or_false}
+use Rattle.words.proofs.Bounded.{le_or_lt, le_cases}
 use Rattle.words.proofs.Below.{Below}
 use Rattle.words.proofs.Scan.{Scan, scan_grow}
 use Rattle.rising.specs.Risen.{Run, Breaks, Exceeds, Risen}
 
-module _ {s : List ℕ} {c t : ℕ} where
-  pub run_none : Run s c t 1
-  run_none = record { at = λ u h l. absurd (omega arith) }
-
-  -- one more byte tested; `some` says whether one before it is not c
-  pub run_test : {n : ℕ} (some : Bool) → (some ≡ false → Run s c t n) → (some || not (eqb (get_or s (t + n) 0) c)) ≡ false → Run s c t (n + 1)
-  run_test {n} some g e =
-      let (p, q) = or_false some (not (eqb (get_or s (t + n) 0) c)) e in
-      record { at = λ u h l. go u h (le_cases {a = u} {b = n} (omega arith)) (g p) (eqb-true (get_or s (t + n) 0) c (not-false (eqb (get_or s (t + n) 0) c) q)) }
-    where
-      go : (u : ℕ) → 0 < u → (u ≡ n) ⊎ (u < n) → Run s c t n → get_or s (t + n) 0 ≡ c → get_or s (t + u) 0 ≡ c
-      go u h (inl q) r e = rw q e
-      go u h (inr q) r e = r.at u h q
-
-  pub run_broken : {n : ℕ} (some : Bool) → 0 < n → (some ≡ true → Run s c t n → ⊥) → (some || not (eqb (get_or s (t + n) 0) c)) ≡ true
-      → Run s c t (n + 1) → ⊥
-  run_broken {n} some h g e r = go (or_true some (not (eqb (get_or s (t + n) 0) c)) e)
-    where
-      go : (some ≡ true) ⊎ (not (eqb (get_or s (t + n) 0) c) ≡ true) → ⊥
-      go (inl q) = g q (record { at = λ u a b. r.at u a (omega arith) })
-      go (inr q) = eqb-false (get_or s (t + n) 0) c (not-true (eqb (get_or s (t + n) 0) c) q) (r.at n h (omega arith))
-
-module _ {s : List ℕ} {c : ℕ} {P : ℕ → Type 0} {j : ℕ} where
-  pub risen_none : Risen s c P j j
-  risen_none = record { at = λ t h l. absurd (omega arith) }
-
-  pub risen_more : {k m : ℕ} → Risen s c P j k → Risen s c P k m → Risen s c P j m
-  risen_more {k} {m} g f = record { at = λ t h l. go t h l (le_or_lt k t) }
-    where
-      go : (t : ℕ) → j ≤ t → t < m → (k ≤ t) ⊎ (t < k) → (c < get_or s t 0) ⊎ ((get_or s t 0 ≡ c) × P t)
-      go t h l (inl q) = f.at t q l
-      go t h l (inr q) = g.at t h q
-
-  -- one more byte tested; `all` says whether all before it passed, `met` whether P is so of its place
-  pub risen_test : {k : ℕ} (all met : Bool) → (all ≡ true → Risen s c P j k) → (met ≡ true → P k)
-      → (all && (ltb c (get_or s k 0) || (eqb c (get_or s k 0) && met))) ≡ true → Risen s c P j (k + 1)
-  risen_test {k} all met g f e =
-      let (p, q) = and_true all (ltb c (get_or s k 0) || (eqb c (get_or s k 0) && met)) e in
-      record { at = λ t h l. go t h (le_cases {a = t} {b = k} (omega arith)) (g p) (here (or_true (ltb c (get_or s k 0)) (eqb c (get_or s k 0) && met) q)) }
-    where
-      here : (ltb c (get_or s k 0) ≡ true) ⊎ ((eqb c (get_or s k 0) && met) ≡ true) → (c < get_or s k 0) ⊎ ((get_or s k 0 ≡ c) × P k)
-      here (inl l) = inl (ltb-true c (get_or s k 0) l)
-      here (inr l) =
-          let (m, n) = and_true (eqb c (get_or s k 0)) met l in
-          inr (sym (eqb-true c (get_or s k 0) m), f n)
-
-      go : (t : ℕ) → j ≤ t → (t ≡ k) ⊎ (t < k) → Risen s c P j k → (c < get_or s k 0) ⊎ ((get_or s k 0 ≡ c) × P k) → (c < get_or s t 0) ⊎ ((get_or s t 0 ≡ c) × P t)
-      go t h (inl q) r l = rw q l
-      go t h (inr q) r l = r.at t h q
+-- what is so of the places where a test is met
+pub risen_met : {s : List ℕ} {c : ℕ} {P Q : ℕ → Type 0} {j k : ℕ} → Risen s c P j k → ((t : ℕ) → P t → Q t) → Risen s c Q j k
+risen_met {s} {c} {P} {Q} r f = record { at = λ t h l. go t (r.at t h l) }
+  where
+    go : (t : ℕ) → (c < get_or s t 0) ⊎ ((get_or s t 0 ≡ c) × P t) → (c < get_or s t 0) ⊎ ((get_or s t 0 ≡ c) × Q t)
+    go t (inl q) = inl q
+    go t (inr q) = inr (q.0, f t q.1)
 
 -- the suffix from t is greater than the word by its first byte
 pub above_below : {s : List ℕ} {i t e : ℕ} → t < e → get_or s i 0 < get_or s t 0 → Below s i t e

@@ -12,8 +12,7 @@ pub fn breaks(s: &[u8], t: usize, c: u8) -> bool
 {
     let mut some = false;
     for u in 1..8 {
-        let x = s[t + u];
-        some = some | (x != c);
+        some |= s[t + u] != c;
     }
     some
 }
@@ -23,13 +22,10 @@ pub fn last_other(s: &[u8], j: usize, k: usize, c: u8) -> usize
     requires { (j ≤ k) × (k ≤ length s.now) }
     ensures { (j ≤ result) × (result ≤ k) × ((result ≡ j) ⊎ (get_or s.now (result - 1) 0 ≡ c → ⊥)) }
 {
-    let mut e = k;
-    while j < e {
-        let x = s[e - 1];
-        if x != c {
-            return e;
+    for t in (j..k).rev() {
+        if s[t] != c {
+            return t + 1;
         }
-        e -= 1;
     }
-    e
+    j
 }

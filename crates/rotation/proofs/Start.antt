@@ -1,15 +1,16 @@
 -- A pass over the groups of s keeps at the least start or before it: what follows a group, round the end of s, is smaller than its word
 -- exactly when the least start is not the group's. At the least start it tells whether s is a shorter word repeated.
-use mathlib.Core.Bool.{false, ◌&&◌}
+use mathlib.Core.Bool.{true, false, ◌&&◌}
 use mathlib.Core.List.{List, ◌++◌}
 use mathlib.Core.Logic.{◌⊎◌, inl, inr}
 use mathlib.Core.Path.{◌≡◌, refl, sym, ap, ◌∙◌}
 use Prim.Native.Nat.{ℕ, zero, suc, ◌+◌, ◌-◌, ◌*◌, ◌≤◌, ◌<◌}
 use native.Mathlib.Omega.{arith}
-use lib.Dec.{ltb, leb, eqb}
+use lib.Dec.{ltb, leb}
 use lib.ListN.{length, get_or}
-use borrow.Author.Tests.{eq-eqb, ne_eqb, le-leb, lt-leb}
-use Rattle.words.specs.Order.{Less, smaller}
+use borrow.Author.Tests.{le-leb, lt-leb}
+use Rattle.words.specs.Order as order
+use Rattle.words.specs.Order.{smaller}
 use Rattle.words.specs.Rotation.{least_rotation, repeated}
 use Rattle.words.proofs.Below.{First, differ_first}
 use Rattle.words.proofs.Bounded.{le_or_lt}
@@ -21,6 +22,10 @@ use Rattle.words.proofs.Scan.{Scan}
 use Rattle.words.proofs.Shared.{smaller_first, smaller_neither}
 use Rattle.scan.specs.Group.{NextGroup}
 use Rattle.scan.proofs.Next.{GroupScan, group_scan}
+use Rattle.std.specs.declared.cmp.Ordering.{Ordering}
+use Rattle.std.specs.declared.cmp.Ordering.TheVariants.{Less, Equal, Greater}
+use Rattle.std.specs.Ordering.{is_eq, is_ge}
+use Rattle.comparing.specs.Compared.{smaller_of}
 use Rattle.rotation_round.proofs.Follow.{follow, word, length_follow, length_word, follow_at, word_symbol, follow_same, follow_smaller}
 
 -- a word of s ++ s from i that is longer than what was scanned and ends after length s
@@ -101,7 +106,7 @@ module _ (s : List ℕ) {i size : ℕ} (e : ℕ) (g : NextGroup s i size (suc e)
               far (inl k) = k
               far (inr k) = absurd (omega (arith, up, follow_same s g c m (omega (arith, came))))
 
-          go : Less (word s g) (follow s g) ⊎ (word s g ≡ follow s g) → Grown s i (suc e * size)
+          go : order.Less (word s g) (follow s g) ⊎ (word s g ≡ follow s g) → Grown s i (suc e * size)
           go (inl l) =
               at (differ_first (word s g) (follow s g) (less_differ (word s g) (follow s g) (omega (arith, length_follow s g, length_word s g)) l))
           go (inr f) = absurd (q ((smaller_neither (follow s g) (word s g)).0 (sym f)))
@@ -109,44 +114,50 @@ module _ (s : List ℕ) {i size : ℕ} (e : ℕ) (g : NextGroup s i size (suc e)
       grown_start : i ≡ least_rotation s
       grown_start = sym (round_start s h grown.scan 1 (omega arith) (omega (arith, grown.far)))
 
-    found : (v : ℕ) → v ≡ smaller (follow s g) (word s g) → (v ≤ 0) ⊎ (0 < v) → i ≡ least_rotation s
-    found v f (inl k) = again_start (omega (arith, f, k))
-    found v f (inr k) = grown_start (λ q. omega (arith, f, k, q))
+    found : (v : Ordering) → smaller_of v ≡ smaller (follow s g) (word s g) → i ≡ least_rotation s
+    found Equal f = again_start (sym f)
+    found Greater f = grown_start (λ q. omega (arith, f, q))
+    found Less f = absurd (never (sym f))
 
-    tells : (v : ℕ) → v ≡ smaller (follow s g) (word s g) → (v ≤ 0) ⊎ (0 < v) → (length s ≤ suc e * size + size) ⊎ (suc e * size + size < length s)
-        → (eqb v 0 && leb (length s - suc e * size) size) && ltb size (length s) ≡ repeated s
-    tells v f (inl k) (inl l) =
-        let q : smaller (follow s g) (word s g) ≡ 0 = omega (arith, f, k) in
-        let z : i ≡ least_rotation s = again_start q in
-        rw (eq-eqb v 0 (omega arith), le-leb (length s - suc e * size) size (omega arith))
-        (again_tells s (rw z at (again q)) (omega (arith, over, z)) some (suc e) refl (omega (arith, g.fits, z)) l)
-    tells v f (inl k) (inr l) =
-        let q : smaller (follow s g) (word s g) ≡ 0 = omega (arith, f, k) in
-        let z : i ≡ least_rotation s = again_start q in
-        rw (eq-eqb v 0 (omega arith), lt-leb (length s - suc e * size) size (omega arith))
-        (sym (again_not s (rw z at (again q)) (omega (arith, over, z)) some (suc e) refl (omega (arith, g.fits, z)) l))
-    tells v f (inr k) o =
-        let q : smaller (follow s g) (word s g) ≡ 0 → ⊥ = λ q. omega (arith, f, k, q) in
+    tells : (v : Ordering) → smaller_of v ≡ smaller (follow s g) (word s g) → (length s ≤ suc e * size + size) ⊎ (suc e * size + size < length s)
+        → (is_eq v && leb (length s - suc e * size) size) && ltb size (length s) ≡ repeated s
+    tells Equal f (inl l) =
+        let z : i ≡ least_rotation s = again_start (sym f) in
+        rw (le-leb (length s - suc e * size) size (omega arith))
+        (again_tells s (rw z at (again (sym f))) (omega (arith, over, z)) some (suc e) refl (omega (arith, g.fits, z)) l)
+    tells Equal f (inr l) =
+        let z : i ≡ least_rotation s = again_start (sym f) in
+        rw (lt-leb (length s - suc e * size) size (omega arith))
+        (sym (again_not s (rw z at (again (sym f))) (omega (arith, over, z)) some (suc e) refl (omega (arith, g.fits, z)) l))
+    tells Greater f o =
+        let q : smaller (follow s g) (word s g) ≡ 0 → ⊥ = λ q. omega (arith, f, q) in
         let z : i ≡ least_rotation s = grown_start q in
-        rw (ne_eqb v 0 (λ z. omega arith))
-        (sym (longer_tells s (suc e * size) (grown q).more (grown q).scan (grown q).far some z))
+        sym (longer_tells s (suc e * size) (grown q).more (grown q).scan (grown q).far some z)
+    tells Less f o = absurd (never (sym f))
 
 -- the same of any power
-pub start_next : (s : List ℕ) {i size : ℕ} (power : ℕ) (g : NextGroup s i size power) → i ≤ least_rotation s → (v : ℕ) → v ≡ smaller (follow s g) (word s g)
-    → v ≡ 1 → i + power * size ≤ least_rotation s
+pub start_next : (s : List ℕ) {i size : ℕ} (power : ℕ) (g : NextGroup s i size power) → i ≤ least_rotation s
+    → (v : Ordering) → smaller_of v ≡ smaller (follow s g) (word s g) → is_ge v ≡ false → i + power * size ≤ least_rotation s
 start_next s zero g h v f q = absurd (omega (arith, g.some))
-start_next s (suc e) g h v f q = next s e g h (sym f ∙ q)
+start_next s (suc e) g h Less f q = next s e g h (sym f)
+start_next s (suc e) g h Equal f q = absurd (cc)
+start_next s (suc e) g h Greater f q = absurd (cc)
 
-pub start_found : (s : List ℕ) {i size : ℕ} (power : ℕ) (g : NextGroup s i size power) → i ≤ least_rotation s → (v : ℕ) → v ≡ smaller (follow s g) (word s g)
-    → (v ≡ 1 → ⊥) → i ≡ least_rotation s
-start_found s zero g h v f never = absurd (omega (arith, g.some))
-start_found s (suc e) g h v f never = found s e g h (λ q. never (f ∙ q)) v f (le_or_lt v 0)
+not_less : (v : Ordering) → is_ge v ≡ true → smaller_of v ≡ 1 → ⊥
+not_less Less q h = cc
+not_less Equal q h = omega arith
+not_less Greater q h = omega arith
 
-pub start_tells : (s : List ℕ) {i size : ℕ} (power : ℕ) (g : NextGroup s i size power) → i ≤ least_rotation s → (v : ℕ) → v ≡ smaller (follow s g) (word s g)
-    → (v ≡ 1 → ⊥) → (eqb v 0 && leb (length s - power * size) size) && ltb size (length s) ≡ repeated s
-start_tells s zero g h v f never = absurd (omega (arith, g.some))
-start_tells s {i} {size} (suc e) g h v f never =
-    tells s e g h (λ q. never (f ∙ q)) v f (le_or_lt v 0) (le_or_lt (length s) (suc e * size + size))
+pub start_found : (s : List ℕ) {i size : ℕ} (power : ℕ) (g : NextGroup s i size power) → i ≤ least_rotation s
+    → (v : Ordering) → smaller_of v ≡ smaller (follow s g) (word s g) → is_ge v ≡ true → i ≡ least_rotation s
+start_found s zero g h v f q = absurd (omega (arith, g.some))
+start_found s (suc e) g h v f q = found s e g h (λ p. not_less v q (f ∙ p)) v f
+
+pub start_tells : (s : List ℕ) {i size : ℕ} (power : ℕ) (g : NextGroup s i size power) → i ≤ least_rotation s
+    → (v : Ordering) → smaller_of v ≡ smaller (follow s g) (word s g) → is_ge v ≡ true
+    → (is_eq v && leb (length s - power * size) size) && ltb size (length s) ≡ repeated s
+start_tells s zero g h v f q = absurd (omega (arith, g.some))
+start_tells s {i} {size} (suc e) g h v f q = tells s e g h (λ p. not_less v q (f ∙ p)) v f (le_or_lt (length s) (suc e * size + size))
 
 -- a pass ends without an answer only where there is no symbol
 module _ (s : List ℕ) (i : ℕ) (l : length s ≤ i) (h : i ≤ least_rotation s) where

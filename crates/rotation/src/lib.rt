@@ -8,10 +8,10 @@ ghost use Rattle.ranks.specs.Ranks.{ranked};
 ghost use Rattle.words.specs.Rotation.{least_rotation, repeated};
 
 use rotation_round::compare_round;
-use scan::next_group;
+use scan::groups;
 
-// What the doubled pattern shows of the pattern.
-#[derive(Drop)]
+// What the doubled pattern shows of the pattern. No Option: a repeated pattern has its start too, which `least_start` promises.
+#[derive(Clone, Copy)]
 pub struct Least {
     pub start: usize,
     pub repeated: bool,
@@ -24,20 +24,16 @@ pub fn least_start(s: &[u8], ranks: &[u8]) -> Least
     ensures { (result.start ≡ least_rotation (ranked ranks.now s.now)) × (result.repeated ≡ repeated (ranked ranks.now s.now)) }
 {
     let n = s.len();
-    let mut i = 0;
-    while i < n {
-        let g = next_group(s, ranks, i);
-        let round = compare_round(s, ranks, i, g.length, g.power);
+    for g in groups(s, ranks, 0) {
+        let round = compare_round(s, ranks, g.start, g.length, g.power);
         let span = g.power * g.length;
-        let end = i + span;
-        if round != 1 {
+        if round.is_ge() {
             let outside = n - span;
             return Least {
-                start: i,
-                repeated: (round == 0) & (outside <= g.length) & (g.length < n),
+                start: g.start,
+                repeated: round.is_eq() & (outside <= g.length) & (g.length < n),
             };
         }
-        i = end;
     }
     Least {
         start: 0,

@@ -65,9 +65,6 @@ puts_byte {xs} {d} {b} {i} {n} x p h =
     puts_then p (record { next = refl; leaves = set_written b n x (omega (arith, p.next, puts_length p (omega arith))) }) (omega arith)
 
 -- the last byte first
-pub written_none : (i : ℕ) (d : List ℕ) → written_at i [] d ≡ d
-written_none i d = take-append-drop i d
-
 pub written_last : (i : ℕ) (xs : List ℕ) (x : ℕ) (d : List ℕ) → i + length xs < length d
     → written_at i (xs ++ (x ∷ [])) d ≡ written_at i xs (set d (i + length xs) x)
 written_last i xs x d h =

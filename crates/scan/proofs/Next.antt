@@ -4,10 +4,11 @@ use mathlib.Core.Path.{◌≡◌, refl, sym, ap, ◌∙◌}
 use Prim.Native.Nat.{ℕ, zero, suc, ◌+◌, ◌-◌, ◌*◌, ◌/◌, ◌%◌, ◌≤◌, ◌<◌}
 use native.Mathlib.Nat.{div-add-mod', mod-lt, le-div_iff_mul-le, div-mul-le_self, lt-div-mul-add, mul-pos}
 use native.Mathlib.Omega.{arith}
-use lib.ListN.{length, take, drop, get_or, replicate, drop_of_length-le}
+use lib.ListN.{length, take, drop, get_or, replicate, drop_of_length-le, length-drop}
 use Rattle.words.specs.Factors.{factors, Group}
 use Rattle.words.specs.Tables.{groups, suffix_groups}
 use Rattle.scan.specs.Group.{NextGroup}
+use Rattle.words.proofs.Groups.{groups_few}
 use Rattle.words.proofs.Scan.{Scan, Stops, scan_same, scan_up, scan_stops, scan_first, scan_again, scan_shift, scan_group}
 
 pub groups_start : (s : List ℕ) → groups s ≡ suffix_groups s 0
@@ -17,6 +18,11 @@ groups_start s = refl
 pub suffix_end : (s : List ℕ) (i : ℕ) → length s ≤ i → suffix_groups s i ≡ []
 unfolding suffix_groups factors
 suffix_end s i h = rw (drop_of_length-le s h)
+
+-- a suffix has no more groups than the pattern has symbols
+pub suffix_few : (s : List ℕ) (i : ℕ) → length (suffix_groups s i) ≤ length s
+unfolding suffix_groups
+suffix_few s i = omega (arith, groups_few i (drop i s), length-drop i s)
 
 pub next_group : {s : List ℕ} {i j p : ℕ} → Scan s i j p → Stops s j p → NextGroup s i p ((j - i) / p)
 unfolding suffix_groups

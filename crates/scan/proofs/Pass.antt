@@ -21,9 +21,6 @@ pub stretches : {l e : ℕ} → 0 < l → 0 < e → Stretches l e
 stretches {l} {e} h k = record { size = omega (arith, mul-le-mul_right {m = 1} {n = e} l k); power = le-mul_of_pos_right e h }
 
 module _ {s : List ℕ} {i l e : ℕ} (g : NextGroup s i l e) where
-  pub count_turn : (k total : ℕ) → k + length (suffix_groups s i) ≡ total → k + 1 + length (suffix_groups s (i + e * l)) ≡ total
-  count_turn k total h = omega (arith, ap length g.group)
-
   pub write_turn : {out d row : List ℕ} {at : ℕ} → Wrote out d row at (group_numbers (suffix_groups s i))
       → Wrote out d (set (set (set row at i) (at + 1) l) (at + 2) e) (at + 3) (group_numbers (suffix_groups s (i + e * l)))
   write_turn {out} {d} {row} {at} w =

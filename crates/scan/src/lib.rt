@@ -1,18 +1,20 @@
-// Duval's scan: the group of factors that starts at a place of a pattern.
+// Duval's scan: the group of factors that starts at a place of a pattern, and the groups from a place on, one after the other.
 // The inner loop of everything that lists factors; refusals and rows are left to the crates above.
 #![tactic(auto)]
 
-ghost use Rattle.std.specs.Prelude.{◌<◌, length};
+ghost use Rattle.std.specs.Iterator.{YieldsFirstBy, item_count};
+ghost use Rattle.std.specs.Prelude.{◌≡◌, ◌<◌, ◌≤◌, length};
 ghost use Rattle.ranks.specs.Inner.{Ranks};
 ghost use Rattle.ranks.specs.Ranks.{ranked};
-ghost use Rattle.scan.specs.Group.{NextGroup, GroupFrom};
+ghost use Rattle.scan.specs.Known.{ranks_prop};
+ghost use Rattle.words.specs.Tables.{suffix_groups};
+ghost use Rattle.scan.specs.Group.{NextGroup, GroupFrom, group_of};
 
 use leaps::{leap, next_gap};
-use rows::shorter;
 use symbols::below;
 
 // A stretch of equal neighbouring factors: the length of one, and how many there are.
-#[derive(Drop)]
+#[derive(Clone, Copy)]
 pub struct Stretch {
     pub length: usize,
     pub power: usize,
@@ -27,22 +29,22 @@ pub fn next_group(s: &[u8], ranks: &[u8], i: usize) -> Stretch
     let mut p = 1;
     let mut j = i + 1;
     let mut gap = 8;
+    // A loop by hand: how far a leap goes is only known from the bytes.
     while j < n {
-        let stop = j + shorter(gap, n - j);
-        while j < stop {
-            let x = s[j - p];
-            let y = s[j];
+        let stop = j + gap.min(n - j);
+        for k in j..stop {
+            let x = s[k - p];
+            let y = s[k];
             if x != y {
                 if below(ranks, y, x) {
-                    let power = (j - i) / p;
+                    let power = (k - i) / p;
                     return Stretch { length: p, power };
                 }
-                p = j + 1 - i;
+                p = k + 1 - i;
             }
-            j += 1;
         }
-        let m = leap(s, ranks, i, j, p);
-        gap = next_gap(gap, 64, j < m.j);
+        let m = leap(s, ranks, i, stop, p);
+        gap = next_gap(gap, 64, stop < m.j);
         p = m.p;
         j = m.j;
     }
@@ -51,6 +53,7 @@ pub fn next_group(s: &[u8], ranks: &[u8], i: usize) -> Stretch
 }
 
 // The group that starts at a place; at the end of the pattern and behind it, where none does, zeros.
+// Zeros and no Option: the listing prints just these in its line for the end.
 pub fn group_from(s: &[u8], ranks: &[u8], i: usize) -> Stretch
     requires { Ranks ranks.now }
     ensures { GroupFrom (ranked ranks.now s.now) i result.length result.power }
@@ -61,5 +64,54 @@ pub fn group_from(s: &[u8], ranks: &[u8], i: usize) -> Stretch
     Stretch {
         length: 0,
         power: 0,
+    }
+}
+
+// A group with the place that it starts at.
+#[derive(Clone, Copy)]
+pub struct GroupAt {
+    pub start: usize,
+    pub length: usize,
+    pub power: usize,
+}
+
+// Goes over groups from first to last: the pattern, its ranks, and where the next group starts.
+#[derive(Drop)]
+pub struct GroupsLeft<'a> {
+    s: &'a [u8],
+    ranks: &'a [u8],
+    at: usize,
+    pub ghost known: { Ranks ranks.now } by { ranks_prop ranks.now },
+    pub ghost within: { at ≤ length s.now },
+}
+
+// The groups of a pattern from a place on.
+pub fn groups<'a>(s: &'a [u8], ranks: &'a [u8], from: usize) -> GroupsLeft<'a>
+    requires { Ranks ranks.now × (from ≤ length s.now) }
+    ensures { (result.s.now ≡ s.now) × (result.ranks.now ≡ ranks.now) × (result.at ≡ from) }
+{
+    GroupsLeft { s, ranks, at: from }
+}
+
+impl<'a> Iterator for GroupsLeft<'a> {
+    type Item = GroupAt;
+
+    ghost next_gives = { YieldsFirstBy (λ g. group_of g.start g.length g.power) (λ it. suffix_groups (ranked it.ranks.now it.s.now) it.at) };
+
+    ghost remaining = { item_count (λ it. suffix_groups (ranked it.ranks.now it.s.now) it.at) };
+
+    #[inline(always)]
+    fn next(&mut self) -> Option<GroupAt> {
+        let start = self.at;
+        if start == self.s.len() {
+            return None;
+        }
+        let Stretch { length, power } = next_group(self.s, self.ranks, start);
+        self.at = start + power * length;
+        Some(GroupAt {
+            start,
+            length,
+            power,
+        })
     }
 }

@@ -10,25 +10,24 @@ ghost use Rattle.seams.specs.Survey.{Surveyed, inside_of};
 
 use cuts::{Ends, ends_with, start_with, stored_ends};
 use longest::{Longest, better, first_run};
-use scan::next_group;
+use scan::groups;
+use splicing::Edit;
 
 // One more where a place lies between two others.
 fn counted(count: usize, low: usize, high: usize, end: usize) -> usize
     requires { count < 18446744073709551615 }
     ensures { result ≡ count + inside_of low high end }
 {
-    if end <= low {
-        return count;
+    if low < end && end < high {
+        count + 1
+    } else {
+        count
     }
-    if high <= end {
-        return count;
-    }
-    count + 1
 }
 
 // What one pass tells of an edited pattern: the factors that end by the edit's start, the first start of a factor behind the block, how many groups
 // end between the kept factors or the edit's start and that place, and the longest Lyndon substrings.
-#[derive(Drop)]
+#[derive(Clone, Copy)]
 struct Overview {
     ends: Ends,
     place: usize,
@@ -53,17 +52,14 @@ fn survey(t: &[u8], ranks: &[u8], end: usize, from: usize, q: usize) -> Overview
         count: 0,
     };
     let mut run = 0;
-    let mut i = 0;
-    while i < t.len() {
-        let g = next_group(t, ranks, i);
-        let next = i + g.power * g.length;
-        ends = ends_with(ends, from, i, g.length, g.power);
-        place = start_with(place, q, i, g.length, g.power);
+    for g in groups(t, ranks, 0) {
+        let next = g.start + g.power * g.length;
+        ends = ends_with(ends, from, g.start, g.length, g.power);
+        place = start_with(place, q, g.start, g.length, g.power);
         stored = counted(stored, end, q, next);
         fresh = counted(fresh, from, q, next);
         run = first_run(run, found.length, g.length, g.power);
-        found = better(found, i, g.length, g.power);
-        i = next;
+        found = better(found, g.start, g.length, g.power);
     }
     Overview {
         ends,
@@ -76,7 +72,7 @@ fn survey(t: &[u8], ranks: &[u8], end: usize, from: usize, q: usize) -> Overview
 }
 
 // Kept and the place where the kept factors end; resume and its place in the edited pattern.
-#[derive(Drop)]
+#[derive(Clone, Copy)]
 pub struct Seams {
     pub kept: usize,
     pub end: usize,
@@ -85,7 +81,7 @@ pub struct Seams {
 }
 
 // The seams, how many groups the middle has, and the longest Lyndon substrings with the run of the first of them.
-#[derive(Drop)]
+#[derive(Clone, Copy)]
 pub struct Parts {
     pub seams: Seams,
     pub groups: usize,
@@ -102,48 +98,30 @@ fn groups_between(end: usize, place: usize, inner: usize) -> usize
 }
 
 // Where the parts of the edited pattern t meet; for `edit`.
-pub fn plan(
-    pattern: &[u8],
-    ranks: &[u8],
-    table: &[u16],
-    from: usize,
-    to: usize,
-    block: &[u8],
-    t: &[u8],
-) -> Parts
-    requires { Ranks ranks.now × Accepted (ranked ranks.now pattern.now) table.now from to (ranked ranks.now block.now) (ranked ranks.now t.now) }
-    ensures { Planned (ranked ranks.now pattern.now) from to (ranked ranks.now block.now) (ranked ranks.now t.now) result }
+pub fn plan(edit: Edit, ranks: &[u8], table: &[u16], t: &[u8]) -> Parts
+    requires { Ranks ranks.now × Accepted (ranked ranks.now edit.pattern.now) table.now edit.from edit.to (ranked ranks.now edit.block.now) (ranked ranks.now t.now) }
+    ensures { Planned (ranked ranks.now edit.entry.pattern.now) edit.entry.from edit.entry.to (ranked ranks.now edit.entry.block.now) (ranked ranks.now t.now) result }
 {
-    let stored = stored_ends(pattern, ranks, table, from);
-    let q = from + block.len();
-    let seen = survey(t, ranks, stored.end, from, q);
+    let stored = stored_ends(edit.pattern, ranks, table, edit.from);
+    let q = edit.from + edit.block.len();
+    let seen = survey(t, ranks, stored.end, edit.from, q);
     let ends = seen.ends;
-    let found = seen.found;
-    let run = seen.run;
     let place = seen.place;
-    let resume = to + (place - q);
-    if stored.count <= ends.count {
-        return Parts {
-            seams: Seams {
-                kept: stored.count,
-                end: stored.end,
-                resume,
-                place,
-            },
-            groups: groups_between(stored.end, place, seen.stored),
-            found,
-            run,
-        };
-    }
+    let resume = edit.to + (place - q);
+    let (kept, end, inner) = if stored.count <= ends.count {
+        (stored.count, stored.end, seen.stored)
+    } else {
+        (ends.count, ends.end, seen.fresh)
+    };
     Parts {
         seams: Seams {
-            kept: ends.count,
-            end: ends.end,
+            kept,
+            end,
             resume,
             place,
         },
-        groups: groups_between(ends.end, place, seen.fresh),
-        found,
-        run,
+        groups: groups_between(end, place, inner),
+        found: seen.found,
+        run: seen.run,
     }
 }

@@ -1,24 +1,23 @@
 // Makes an edit and prints what is given and answered, as `calls.rt` does. Rows have room for so many groups and places.
-use crate::calls::{OLD, least};
-use edit::{Answer, MAX_MIDDLE};
+use crate::calls::OLD;
+use edit::{Counts, MAX_MIDDLE};
 use edit_core::core;
-use refusals::MAX_PATTERN;
+use refusals::{MAX_PATTERN, Refusal};
 use std::io;
 
-fn answer(rt: &impl Print, a: Answer) -> io::Result<()> {
+fn answer(rt: &impl Print, a: Result<Counts, Refusal>) -> io::Result<()> {
+    let Ok(counts) = a else {
+        return crate::refusal(rt, a);
+    };
     crate::text(rt, b":")?;
-    match a {
-        Answer::Done(c) => {
-            crate::number(rt, b"kept", c.kept as u64)?;
-            crate::number(rt, b"resume", c.resume as u64)?;
-            crate::number(rt, b"groups", c.groups as u64)?;
-            crate::number(rt, b"length", c.length as u64)?;
-            crate::number(rt, b"starts", c.starts as u64)
-        }
-        Answer::Refused(number) => crate::number(rt, b"refusal", number as u64),
-    }
+    crate::number(rt, b"kept", counts.kept as u64)?;
+    crate::number(rt, b"resume", counts.resume as u64)?;
+    crate::number(rt, b"groups", counts.groups as u64)?;
+    crate::number(rt, b"length", counts.length as u64)?;
+    crate::number(rt, b"starts", counts.starts as u64)
 }
 
+// The values of an edit stand side by side, as `edit_core::core` takes them.
 pub fn edit_with(
     rt: &impl Print,
     pattern: &[u8],
@@ -39,12 +38,10 @@ pub fn edit_with(
     crate::text(rt, b" block")?;
     crate::word(rt, block)?;
     let mut space = [OLD; 3 * MAX_MIDDLE];
-    let room = least(groups, MAX_MIDDLE);
-    let n = 3 * room;
-    let middle = &mut space[0..n];
+    let room = groups.min(MAX_MIDDLE);
+    let middle = &mut space[..3 * room];
     let mut more = [OLD; MAX_PATTERN];
-    let p = least(places, MAX_PATTERN);
-    let starts = &mut more[0..p];
+    let starts = &mut more[..places.min(MAX_PATTERN)];
     let a = core(
         pattern, order, array, last, from, to, block, room, middle, starts,
     );
@@ -67,8 +64,8 @@ pub fn edit(
 ) -> io::Result<()> {
     let mut array = [0; MAX_PATTERN];
     let mut last = [0; MAX_PATTERN];
-    lyndon_tables::lyndon_array(pattern, order, &mut array);
-    lyndon_tables::last_factors(pattern, order, &mut last);
+    let _ = lyndon_tables::lyndon_array(pattern, order, &mut array);
+    let _ = lyndon_tables::last_factors(pattern, order, &mut last);
     edit_with(
         rt, pattern, order, &array, &last, from, to, block, groups, places,
     )

@@ -14,6 +14,7 @@ pub fn read_full<R: Read>(stream: &mut R, bytes: &mut [u8]) -> io::Result<usize>
     ensures end { IfOk result (λ n. n < length bytes.new → IsAtEnd (R.remaining stream.new)) }
 {
     let mut done = 0;
+    // a `while`, since how far it goes on is what the read answered
     while done < bytes.len() {
         let n = stream.read(&mut bytes[done..])?;
         if n == 0 {

@@ -9,23 +9,15 @@ ghost use Rattle.ranks.specs.Inner.{Ranks, Below};
 // The number of ranks in an order.
 pub const ORDER: usize = 256;
 
-// A byte as an index, which is below 256.
-pub fn wide(x: u8) -> usize
-    ensures { (result ≡ x) × (result < 256) }
-{
-    x as usize
-}
-
 // The rank of a byte.
 pub fn rank_of(ranks: &[u8], byte: u8) -> usize
     requires { Ranks ranks.now }
     ensures { (result ≡ rank ranks.now byte) × (byte < 256) }
 {
     if ranks.len() == 0 {
-        return wide(byte);
+        return usize::from(byte);
     }
-    let at = wide(byte);
-    wide(ranks[at])
+    usize::from(ranks[usize::from(byte)])
 }
 
 // Whether x has a smaller rank than y.
@@ -33,10 +25,8 @@ pub fn below(ranks: &[u8], x: u8, y: u8) -> bool
     requires { Ranks ranks.now }
     ensures { Below ranks.now x y result }
 {
-    let left = wide(x);
-    let right = wide(y);
     if ranks.len() != 0 {
-        return ranks[left] < ranks[right];
+        return ranks[usize::from(x)] < ranks[usize::from(y)];
     }
-    left < right
+    x < y
 }

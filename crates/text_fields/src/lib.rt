@@ -19,13 +19,11 @@ pub fn write_word(word: &[u8], buffer: &mut [u8], at: usize) -> usize
 {
     let digits = digit_list();
     let mut next = at;
-    let mut k = 0;
-    while k < word.len() {
-        let pair = pair_of(&digits, word[k] as usize);
+    for &byte in word {
+        let pair = pair_of(&digits, byte as usize);
         buffer[next] = pair[0];
         buffer[next + 1] = pair[1];
         next += 2;
-        k += 1;
     }
     next
 }

@@ -22,6 +22,7 @@ fn write_lines(s: &[u8], ranks: &[u8], from: usize, buffer: &mut [u8], at: usize
     let mut next = at;
     let mut start = from;
     let mut g = group_from(s, ranks, from);
+    // a `while` and no `scan::groups`, since each line needs the group behind its own
     while start < s.len() {
         let end = start + g.length;
         let place = start + g.power * g.length;
@@ -42,6 +43,7 @@ fn lines_length(s: &[u8], ranks: &[u8], from: usize) -> usize
     let mut total = 0;
     let mut i = from;
     let mut g = group_from(s, ranks, from);
+    // a `while` and no `scan::groups`, since each line needs the group behind its own
     while i < s.len() {
         let end = i + g.length;
         let place = i + g.power * g.length;

@@ -3,10 +3,12 @@
 #![tactic(auto)]
 
 ghost use Rattle.std.specs.Prelude.{◌≡◌, ◌<◌, length};
+ghost use Rattle.refusals.specs.Answers.{number_of};
 ghost use Rattle.text.specs.Listing.{header, line, refusal_text};
 ghost use Rattle.rows.specs.Written.{Room, Puts};
 
 use decimal::digit_count;
+use refusals::Refusal;
 use rows::write_bytes;
 use text_fields::{write_field, write_last, write_word};
 
@@ -16,6 +18,7 @@ pub const HEADER: [u8; 32] = *b"start,length,power,word,shared\r\n";
 const REFUSED: [u8; 7] = *b"refused";
 
 // Writes the line of a group whose factors are this word.
+#[tactic(auto, using(text::proofs::Lengths::line_parts))]
 pub fn write_line(
     start: usize,
     power: usize,
@@ -35,6 +38,7 @@ pub fn write_line(
 }
 
 // The length of that line.
+#[tactic(auto, using(text::proofs::Lengths::line_counts))]
 pub fn line_length(start: usize, power: usize, word: &[u8], shared: usize) -> usize
     requires { length (line start (length word.now) power word.now shared) < 18446744073709551616 }
     ensures { result ≡ length (line start (length word.now) power word.now shared) }
@@ -45,6 +49,7 @@ pub fn line_length(start: usize, power: usize, word: &[u8], shared: usize) -> us
 }
 
 // Writes the header to the front of the buffer.
+#[tactic(auto, unfolding(text::specs::Listing::header))]
 pub fn write_header(buffer: &mut [u8]) -> usize
     requires { Room header 0 buffer.old }
     ensures { Puts header 0 buffer.old buffer.new result }
@@ -53,10 +58,11 @@ pub fn write_header(buffer: &mut [u8]) -> usize
 }
 
 // Writes all that is printed for a refusal to the front of the buffer.
-pub fn write_refusal(number: usize, buffer: &mut [u8]) -> usize
-    requires { Room (refusal_text number) 0 buffer.old }
-    ensures { Puts (refusal_text number) 0 buffer.old buffer.new result }
+#[tactic(auto, using(text::proofs::Lengths::refusal_parts))]
+pub fn write_refusal(refusal: Refusal, buffer: &mut [u8]) -> usize
+    requires { Room (refusal_text (number_of refusal)) 0 buffer.old }
+    ensures { Puts (refusal_text (number_of refusal)) 0 buffer.old buffer.new result }
 {
     let last = write_bytes(&REFUSED, buffer, 0);
-    write_last(number, buffer, last)
+    write_last(usize::from(u8::from(refusal)), buffer, last)
 }

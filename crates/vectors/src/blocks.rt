@@ -4,7 +4,7 @@ ghost use Rattle.std.specs.Prelude.{◌≡◌, ◌≤◌, ◌<◌, length};
 
 use rows::write_bytes;
 use show::calls;
-use show::calls::{BLANK, BUFFER, least};
+use show::calls::{BLANK, BUFFER};
 use std::io;
 
 // The longest block that is read here: a header of nine digits, 16,385 bytes, and two bytes behind them.
@@ -13,16 +13,10 @@ const SPACE: usize = 16398;
 // Reads each of the blocks, which `|` parts: a function of many calls with a text each takes long to check.
 fn each(rt: &impl Print, heading: &[u8], blocks: &[u8]) -> io::Result<()> {
     show::heading(rt, heading)?;
-    let mut from = 0;
-    let mut i = 0;
-    while i < blocks.len() {
-        if blocks[i] == b'|' {
-            calls::read_block(rt, &blocks[from..i])?;
-            from = i + 1;
-        }
-        i += 1;
+    for block in blocks.split(|&b| b == b'|') {
+        calls::read_block(rt, block)?;
     }
-    calls::read_block(rt, &blocks[from..i])
+    Ok(())
 }
 
 fn headers(rt: &impl Print) -> io::Result<()> {
@@ -103,9 +97,8 @@ fn write(rt: &impl Print, pattern: &[u8], size: usize) -> io::Result<()>
     calls::write_block(rt, pattern, size)?;
     calls::write_block(rt, pattern, size + 2)?;
     let mut space = [BLANK; BUFFER];
-    let a = block::write_block(pattern, &mut space);
-    let n = least(a.count, BUFFER);
-    calls::read_block(rt, &space[0..n])
+    let count = block::write_block(pattern, &mut space).unwrap_or(0);
+    calls::read_block(rt, &space[..count.min(BUFFER)])
 }
 
 fn written(rt: &impl Print) -> io::Result<()> {

@@ -2,8 +2,8 @@
 // tables stored under the limit of before, and positions at the largest `usize`.
 ghost use Rattle.std.specs.Prelude.{◌≤◌, length};
 
-use show::calls;
 use show::edits::{edit, edit_with};
+use show::{calls, changed};
 use std::io;
 
 // The tables of acbabcabcabac.
@@ -59,34 +59,9 @@ fn longest(rt: &impl Print, order: &[u8]) -> io::Result<()> {
     edit(rt, &[b'a'; 16129], order, 16129, 16129, &[b'b'; 256], 1, 1)
 }
 
-// One entry of a table is one too large.
-fn wrong_array(rt: &impl Print, order: &[u8], at: usize, value: u16) -> io::Result<()> {
-    let mut table = REACH;
-    if at < 13 {
-        table[at] = value;
-        edit_with(rt, b"acbabcabcabac", order, &table, &LAST, 5, 6, b"b", 0, 0)?;
-    }
-    Ok(())
-}
-
-fn wrong_last(rt: &impl Print, order: &[u8], at: usize, value: u16) -> io::Result<()> {
-    let mut table = LAST;
-    if at < 13 {
-        table[at] = value;
-        edit_with(
-            rt,
-            b"acbabcabcabac",
-            order,
-            &REACH,
-            &table,
-            5,
-            6,
-            b"b",
-            0,
-            0,
-        )?;
-    }
-    Ok(())
+// An edit with these tables, and no room.
+fn asked(rt: &impl Print, order: &[u8], array: &[u16], last: &[u16]) -> io::Result<()> {
+    edit_with(rt, b"acbabcabcabac", order, array, last, 5, 6, b"b", 0, 0)
 }
 
 fn tables(rt: &impl Print, order: &[u8]) -> io::Result<()> {
@@ -94,12 +69,12 @@ fn tables(rt: &impl Print, order: &[u8]) -> io::Result<()> {
         rt,
         b"tables with a wrong entry: the first, a middle one, the last; right ones",
     )?;
-    wrong_array(rt, order, 0, 4)?;
-    wrong_last(rt, order, 0, 2)?;
-    wrong_array(rt, order, 6, 4)?;
-    wrong_last(rt, order, 6, 2)?;
-    wrong_array(rt, order, 12, 2)?;
-    wrong_last(rt, order, 12, 5)?;
+    asked(rt, order, &changed(REACH, 0, 4), &LAST)?;
+    asked(rt, order, &REACH, &changed(LAST, 0, 2))?;
+    asked(rt, order, &changed(REACH, 6, 4), &LAST)?;
+    asked(rt, order, &REACH, &changed(LAST, 6, 2))?;
+    asked(rt, order, &changed(REACH, 12, 2), &LAST)?;
+    asked(rt, order, &REACH, &changed(LAST, 12, 5))?;
     edit_with(rt, b"acbabcabcabac", order, &REACH, &LAST, 5, 6, b"b", 1, 1)
 }
 
@@ -108,8 +83,8 @@ fn falling(table: &mut [u16])
     requires { length table.old ≤ 4096 }
 {
     let n = table.len();
-    for i in 0..n {
-        table[i] = (n - i) as u16;
+    for (i, entry) in table.iter_mut().enumerate() {
+        *entry = (n - i) as u16;
     }
 }
 

@@ -1,7 +1,5 @@
 // What the papers say of short patterns: the mark, Lyndon words, the order of bytes, those lines of the trainer's sheet that ask these calls, and
 // the trigger words of all words of six letters.
-ghost use Rattle.std.specs.Prelude.{◌≡◌, length};
-
 use show::calls;
 use std::io;
 
@@ -47,27 +45,14 @@ fn sheet(rt: &impl Print, order: &[u8]) -> io::Result<()> {
     calls::lyndon_tree(rt, b"a", order, 2)
 }
 
-// The trigger words of the windows of six letters.
-fn windows(rt: &impl Print, letters: &[u8], order: &[u8]) -> io::Result<()>
-    requires { length letters.now ≡ 69 }
-{
-    let mut i = 0;
-    while i < 64 {
-        let end = i + 6;
-        calls::longest_word(rt, &letters[i..end], order)?;
-        i += 1;
-    }
-    Ok(())
-}
-
 // The windows of this word are all words of six letters a and b, each once.
 fn triggers(rt: &impl Print, order: &[u8]) -> io::Result<()> {
     show::heading(rt, b"trigger words of all words of six letters a and b")?;
-    windows(
-        rt,
-        b"aaaaaabaaaabbaaababaaabbbaabaababbaabbabaabbbbabababbbabbabbbbbbaaaaa",
-        order,
-    )
+    let letters = b"aaaaaabaaaabbaaababaaabbbaabaababbaabbabaabbbbabababbbabbabbbbbbaaaaa";
+    for window in letters.windows(6) {
+        calls::longest_word(rt, window, order)?;
+    }
+    Ok(())
 }
 
 pub(crate) fn run(rt: &impl Print, order: &[u8]) -> io::Result<()> {

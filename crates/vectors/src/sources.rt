@@ -55,7 +55,7 @@ fn figure_2(rt: &impl Print, t: &[u8], order: &[u8], table: &mut [u16]) -> io::R
     show::heading(rt, b"source 004, figure 2")?;
     calls::lyndon_tree(rt, b"$abaababbababaaba", order, 66)?;
     calls::lyndon_array(rt, t, order, 16)?;
-    lyndon_tables::lyndon_array(t, order, table);
+    let _ = lyndon_tables::lyndon_array(t, order, table);
     calls::factor_suffix(rt, t, order, table, 6, 12)
 }
 
@@ -69,9 +69,9 @@ fn example_8(rt: &impl Print, uv: &[u8], order: &[u8], table: &mut [u16]) -> io:
     calls::is_lyndon(rt, b"abababcb", order)?;
     calls::longest_words(rt, uv, order, 2)?;
     calls::longest_word(rt, uv, order)?;
-    lyndon_tables::last_factors(uv, order, table);
+    let _ = lyndon_tables::last_factors(uv, order, table);
     calls::factor_prefix(rt, uv, order, table, 8, 9)?;
-    lyndon_tables::lyndon_array(uv, order, table);
+    let _ = lyndon_tables::lyndon_array(uv, order, table);
     calls::factor_suffix(rt, uv, order, table, 8, 15)
 }
 

@@ -40,17 +40,6 @@ module _ {t children : List ℕ} (nests : Nests t) where
     pub counted_few : Counted t i children → get_or children (end_of t i) 0 ≤ i
     counted_few c = omega (arith, c.entry (end_of t i) (nests.within i h), count_le (λ j. eqb (end_of t j) (end_of t i)) i)
 
-    pub counted_turn : Counted t i children → Counted t (i + 1) (set children (end_of t i) (get_or children (end_of t i) 0 + 1))
-    counted_turn c =
-        let w = nests.within i h in
-        record {
-          room = omega (arith, c.room, length-set children (end_of t i) (get_or children (end_of t i) 0 + 1));
-          entry =
-              λ k l. set_entry children (end_of t i) (get_or children (end_of t i) 0 + 1) k (children_before t k (i + 1)) (omega (arith, c.room))
-              (λ e. rw e (omega (arith, c.entry (end_of t i) w, count_here t i)))
-              (λ e. c.entry k l ∙ sym (count_elsewhere t i k e));
-        }
-
     -- the one at i is taken off again
     module _ {next : ℕ} (e : i + 1 ≡ next) (c : Counted t next children) where
       before : Counted t (i + 1) children

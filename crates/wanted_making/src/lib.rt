@@ -18,15 +18,10 @@ pub fn write_symbols(table: &[u16], pattern: &mut [u8])
     let n = table.len();
     // how many children a place has: of the places counted so far, and then of those that have no symbol yet
     let mut children = [0u16; MAX_WANTED + 1];
-    let mut k = 0;
-    while k < n {
-        let end = k + table[k] as usize;
-        children[end] += 1;
-        k += 1;
+    for k in 0..n {
+        children[k + table[k] as usize] += 1;
     }
-    let mut i = n;
-    while 0 < i {
-        i -= 1;
+    for i in (0..n).rev() {
         let end = i + table[i] as usize;
         let earlier = children[end] - 1;
         children[end] = earlier;

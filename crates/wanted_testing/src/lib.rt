@@ -13,9 +13,7 @@ pub fn nests(table: &[u16]) -> bool
     ensures { NestsTold table.now result }
 {
     let n = table.len();
-    let mut start = n;
-    while 0 < start {
-        start -= 1;
+    for start in (0..n).rev() {
         let end = start + table[start] as usize;
         if end == start {
             return false;
@@ -24,6 +22,7 @@ pub fn nests(table: &[u16]) -> bool
             return false;
         }
         let mut next = start + 1;
+        // no range: how long each stretch is, its entry says
         while next < end {
             next += table[next] as usize;
             if end < next {

@@ -2,11 +2,8 @@
 use mathlib.Core.Path.{◌≡◌}
 use mathlib.Core.Bool.{true}
 use Rattle.above.specs.Above.{Above}
-use Prim.Native.Nat.{◌+◌, ◌-◌, ◌≤◌}
+use Prim.Native.Nat.{◌+◌}
 use Rattle.above.proofs.above_bytes.Given as goal
 
 abbrev pub invariant-loop-u : goal.invariant-loop-u
-invariant-loop-u l = (l.u ≤ 16) × (l.all ≡ true → Above l.s l.c l.j (l.j + l.u))
-
-abbrev pub decreases-loop-u : goal.decreases-loop-u
-decreases-loop-u l = 16 - l.u
+invariant-loop-u l = l.all ≡ true → Above l.s l.c l.j (l.j + l.u)

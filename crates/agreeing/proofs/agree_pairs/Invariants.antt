@@ -1,6 +1,6 @@
 -- `agreeing::agree_pairs` meets its contract: the bytes before place k agree.
+use Rattle.std.proofs.Common.{◌-◌, ◌≤◌}
 use Rattle.agreeing.specs.Agrees.{Agrees}
-use Prim.Native.Nat.{◌-◌, ◌≤◌}
 use Rattle.agreeing.proofs.agree_pairs.Given as goal
 
 abbrev pub invariant-loop-k : goal.invariant-loop-k

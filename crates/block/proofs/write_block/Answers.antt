@@ -1,19 +1,12 @@
 -- `block::write_block` meets its contract: the parts of the block stand one behind the other.
-use mathlib.Core.Path.{◌≡◌, refl}
-use Prim.Native.Nat.{◌+◌}
 use native.Mathlib.Omega.{arith}
-use lib.ListN.{length, set, length-set}
-use Rattle.refusals.proofs.First.{none, too_long, not_long, too_short_lem, not_short}
+use lib.ListN.{length}
+use Rattle.refusals.proofs.First.{none, not_long, too_short_lem, not_short}
 use Rattle.refusals.proofs.Outcome.{fills_refused, fills_accepted}
 use Rattle.block_parts.specs.Block.{block_of}
 use Rattle.block.proofs.Outcome.{few_digits, length_block, block_put}
 use borrow.Author.Rules.{rules}
 use Rattle.block.proofs.write_block.Goals as goal
-
-pub returns-then-size-gt-MAX_PATTERN : goal.returns-then-size-gt-MAX_PATTERN
-returns-then-size-gt-MAX_PATTERN c =
-    let a = c.args in
-    fills_refused (too_long a.pattern.now (search rules)) c.refused.ensures
 
 pub overflow_add-digits : goal.overflow_add-digits
 overflow_add-digits c =
@@ -29,7 +22,7 @@ pub returns-then-bytes-digits : goal.returns-then-bytes-digits
 returns-then-bytes-digits c =
     let a = c.args in
     let s = a.pattern.now in
-    fills_refused (not_long s (search rules) (too_short_lem (length (block_of s)) (length a.bytes.now) (omega (arith, length_block s (search rules))))) c.refused-then-bytes-digits.ensures
+    fills_refused (not_long s (search rules) (too_short_lem (length (block_of s)) (length a.bytes.now) (omega (arith, length_block s (search rules)))))
 
 pub overflow_cast-bytes : goal.overflow_cast-bytes
 overflow_cast-bytes c =
@@ -41,24 +34,6 @@ overflow_add-bytes c =
     let s = c.args.pattern.now in
     omega (arith, few_digits s (omega arith), c.digit_count-digits.ensures)
 
-pub bounds-bytes-1 : goal.bounds-bytes-1
-bounds-bytes-1 c = simp length-set (omega arith)
-
-pub write_decimal-place-requires : goal.write_decimal-place-requires
-write_decimal-place-requires c = simp length-set (omega (arith, c.digit_count-digits.ensures))
-
-pub write_bytes-requires : goal.write_bytes-requires
-write_bytes-requires c =
-    let b = c.args.bytes.now in
-    let long : length (set (set b 0 35) 1 (48 + c.digit_count-digits.result)) ≡ length b = simp length-set in
-    omega (arith, long, c.digit_count-digits.ensures)
-
-pub shape_of-bytes : goal.shape_of-bytes
-shape_of-bytes c =
-    let b = c.args.bytes.now in
-    let long : length (set (set b 0 35) 1 (48 + c.digit_count-digits.result)) ≡ length b = simp length-set in
-    omega (arith, long)
-
 pub returns : goal.returns
 returns c =
     let a = c.args in
@@ -68,4 +43,4 @@ returns c =
     block_put s (omega arith) a.bytes.now (omega arith) c.digit_count-digits.ensures
     c.write_decimal-place.ensures c.write_bytes.ensures in
     let fits = not_long s (omega arith) (not_short (length (block_of s)) (length a.bytes.now) (omega arith) none) in
-    fills_accepted fits refl (omega (arith, puts.next)) puts.leaves
+    fills_accepted fits (omega (arith, puts.next)) puts.leaves

@@ -8,7 +8,7 @@ use Rattle.block_parts.specs.Inner.{HeaderOf}
 use Rattle.block_parts.specs.declared.Header.{Header}
 use Rattle.block_parts.specs.declared.Header.TheVariants.{Definite, Indefinite, Other}
 use Rattle.block_parts.proofs.Placed.{block_placed}
-use Rattle.block_place.proofs.Missing.{not_said, too_few, not_marked, field, length_field, cut_short, not_digits, all_digits, not_ended, ended}
+use Rattle.block_place.proofs.Missing.{not_said, field, length_field, cut_short, not_digits, all_digits, not_ended, ended}
 use borrow.Author.Rules.{rules}
 use Rattle.block_place.proofs.locate.Goals as goal
 
@@ -18,19 +18,8 @@ other_said (Definite digits) t h = absurd (t digits refl)
 other_said Indefinite t h = inl h
 other_said Other t h = inr h
 
-pub returns-then-size-lt2 : goal.returns-then-size-lt2
-returns-then-size-lt2 c = too_few (search rules)
-
-pub returns-then-block-ne35 : goal.returns-then-block-ne35
-returns-then-block-ne35 c = not_marked c.if-block-ne35.true
-
 pub returns-in_default : goal.returns-in_default
 returns-in_default c = λ place count b. not_said (other_said c.header_of.result c.in_default.not-Definite c.header_of.ensures) refl (block_placed b)
-
-pub overflow_add-place : goal.overflow_add-place
-overflow_add-place c =
-    let header = c.in-Definite.ensures in
-    omega (arith, header.2)
 
 pub returns-then-size-place : goal.returns-then-size-place
 returns-then-size-place c =
@@ -45,23 +34,6 @@ returns-then-leading_digits-digits c =
     let n = c.in-Definite.digits in
     let header = c.in-Definite.ensures in
     not_digits block n header.0 (omega arith) c.leading_digits.ensures (search rules)
-
-pub slice_bounds-value_of-count : goal.slice_bounds-value_of-count
-slice_bounds-value_of-count c =
-    let header = c.in-Definite.ensures in
-    omega (arith, header.1)
-
-pub slice_bounds-value_of-start : goal.slice_bounds-value_of-start
-slice_bounds-value_of-start c =
-    let header = c.in-Definite.ensures in
-    omega (arith, header.1)
-
-pub value_of-count-requires : goal.value_of-count-requires
-value_of-count-requires c =
-    let block = c.args.block.now in
-    let n = c.in-Definite.digits in
-    let header = c.in-Definite.ensures in
-    (omega (arith, header.2, length_field block n header.0 (omega arith)), all_digits block n header.0 (omega arith) c.leading_digits.ensures (omega arith))
 
 pub overflow_add-place-2 : goal.overflow_add-place-2
 overflow_add-place-2 c =

@@ -3,6 +3,4 @@ use Rattle.comparing.proofs.Decided.{shared_told}
 use Rattle.comparing.proofs.shared_bytes.Goals as goal
 
 pub returns : goal.returns
-returns c =
-    let r = c.shorter-end.ensures in
-    shared_told c.agree_bytes.ensures r.0 r.1 r.2
+returns c = shared_told (rw c.min-end.ensures at c.agree_bytes.ensures)

@@ -2,7 +2,7 @@
 use native.Mathlib.Omega.{arith}
 use Rattle.ranks.specs.Ranks.{ranked}
 use Rattle.ranks.proofs.Ranked.{length_ranked}
-use Rattle.cuts.proofs.Along.{at_start, at_end, at_last, at_count, at_entry, entry_within, entry_fits, entry_some}
+use Rattle.cuts.proofs.Along.{at_start, at_end, at_last, at_count, at_entry, entry_within, entry_some}
 use borrow.Author.Rules.{rules}
 use Rattle.cuts.proofs.stored_ends.Goals as goal
 
@@ -14,13 +14,6 @@ loop-end-init c =
 pub bounds-table-end : goal.bounds-table-end
 bounds-table-end c =
     entry_within c.args.ranks.now c.args.s.now c.args.table.now c.loop-end.end c.requires (search rules)
-
-pub overflow_cast-next : goal.overflow_cast-next
-overflow_cast-next c = omega (arith, c.shared_slice_known-1.given c.loop-end.end)
-
-pub overflow_add-next : goal.overflow_add-next
-overflow_add-next c =
-    omega (arith, entry_fits c.args.ranks.now c.args.s.now c.args.table.now c.loop-end.end c.requires (search rules))
 
 pub returns-then-q-next : goal.returns-then-q-next
 returns-then-q-next c =

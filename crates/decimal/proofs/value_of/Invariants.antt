@@ -1,11 +1,7 @@
--- `decimal::value_of` meets its contract: the digits before place k are read.
-use Prim.Native.Nat.{◌-◌}
-use lib.ListN.{length}
-use Rattle.decimal.proofs.Digits.{Reading}
+-- `decimal::value_of` meets its contract: the digits before the index are read, and the others are left.
+use Rattle.std.proofs.Common.{◌≡◌, ◌^◌, ◌<◌, drop}
+use Rattle.decimal.specs.Decimal.{read, read_behind}
 use Rattle.decimal.proofs.value_of.Given as goal
 
-abbrev pub invariant-loop-k : goal.invariant-loop-k
-invariant-loop-k l = Reading l.digits l.value l.k
-
-abbrev pub decreases-loop-k : goal.decreases-loop-k
-decreases-loop-k l = length l.digits - l.k
+abbrev pub invariant-loop-d : goal.invariant-loop-d
+invariant-loop-d l = (read_behind l.value (drop l.d-index l.digits) ≡ read l.digits) × (l.value < 10 ^ l.d-index)

@@ -4,6 +4,3 @@ use Rattle.decimal.proofs.write_decimal.Given as goal
 
 abbrev pub invariant-loop-i : goal.invariant-loop-i
 invariant-loop-i l = Spelling l.n l.initial.buffer l.at l.buffer l.i l.rest
-
-abbrev pub decreases-loop-i : goal.decreases-loop-i
-decreases-loop-i l = l.i

@@ -1,12 +1,7 @@
 -- `edit_file::first_field` meets its contract: a number that the text starts with has all its leading digits, and no others.
-use Rattle.edit_file.proofs.Fields.{at_close, length_front, digits_front, closes}
-use borrow.Author.Rules.{rules}
+use Rattle.edit_file.proofs.Fields.{at_close}
 use native.Mathlib.Omega.{arith}
 use Rattle.edit_file.proofs.first_field.Goals as goal
-
-pub returns-then-count-eq0 : goal.returns-then-count-eq0
-returns-then-count-eq0 c =
-    λ cs n rest d e. omega (arith, at_close rest c.requires c.leading_digits-count.ensures d e)
 
 pub returns-then-count-gt5 : goal.returns-then-count-gt5
 returns-then-count-gt5 c =
@@ -19,16 +14,3 @@ returns-then-text-count c =
 pub returns-then-text-count-2 : goal.returns-then-text-count-2
 returns-then-text-count-2 c =
     λ cs n rest d e. c.if-text-count-2.true (at_close rest c.requires c.leading_digits-count.ensures d e).closed
-
-pub slice_bounds-value_of-end : goal.slice_bounds-value_of-end
-slice_bounds-value_of-end c = length_front c.leading_digits-count.ensures
-
-pub value_of-requires : goal.value_of-requires
-value_of-requires c =
-    let l = c.leading_digits-count.ensures in
-    (omega (arith, length_front l), digits_front l)
-
-pub returns : goal.returns
-returns c =
-    let l = c.leading_digits-count.ensures in
-    closes l c.args.close (search rules) (search rules) (search rules) (search rules) c.value_of.ensures

@@ -1,76 +1,61 @@
 -- `edit_rows::write_middle` meets its contract: what is still to be written are the numbers of the groups that are left, and the starts in them.
-use mathlib.Core.Path.{ap}
+use mathlib.Core.Path.{◌≡◌}
 use Rattle.words.specs.Factors.{group_numbers}
 use Rattle.words.specs.Tables.{suffix_groups}
-use Rattle.rows.proofs.Wrote.{wrote_none, wrote_all, wrote_length}
+use Rattle.rows.proofs.Wrote.{wrote_none, wrote_all}
 use Rattle.ranks.specs.Ranks.{ranked}
 use Rattle.ranks.proofs.Ranked.{length_ranked}
-use Rattle.scan.proofs.Next.{suffix_end, group_long}
+use Rattle.scan.proofs.Left.{left_turn, left_next, left_end}
 use Rattle.scan.proofs.Pass.{write_turn, length_numbers, length_fits, power_fits, group_room}
 use Rattle.longest_writing.proofs.Writes.{list_none, list_room, list_run, list_over, list_all}
 use borrow.Author.Rules.{rules}
 use native.Mathlib.Omega.{arith}
 use Rattle.edit_rows.proofs.write_middle.Goals as goal
-use Rattle.edit_rows.proofs.write_middle.Goals.{then-g-size, else-g-size}
 
-pub loop-i-init : goal.loop-i-init
-loop-i-init c =
+pub loop-g-init : goal.loop-g-init
+loop-g-init c =
     let a = c.args in
     let t = ranked a.ranks.now a.t.now in
-    let gs = suffix_groups t a.end in (
-      search rules,
-      wrote_none (group_numbers gs) a.numbers.now (omega (arith, length_numbers gs, c.requires.3)),
+    let gs = suffix_groups t a.end in
+    let it = c.into_iter-g-iterator.result in
+    let e : suffix_groups (ranked it.ranks.now it.s.now) it.at ≡ gs = cc in (
+      record { at = a.end; fits = omega (arith, length_ranked a.ranks.now a.t.now); is = e },
+      rw e (wrote_none (group_numbers gs) a.numbers.now (omega (arith, length_numbers gs, c.requires.3))),
       list_none t a.end a.size a.at a.starts.now c.requires.4,
       length_ranked a.ranks.now a.t.now,
     )
 
 pub write_group-requires : goal.write_group-requires
 write_group-requires c =
-    let g = c.next_group-g.ensures in
-    let short = c.requires.1 in (
-      group_room g c.loop-i.invariant.1,
-      omega (arith, c.loop-i.invariant.0, short),
-      omega (arith, length_fits g, g.fits, short, c.loop-i.invariant.3),
-      omega (arith, power_fits g, g.fits, short, c.loop-i.invariant.3),
-    )
-
-pub overflow_add-k : goal.overflow_add-k
-overflow_add-k c =
-    let w = c.loop-i.invariant.1 in
-    omega (arith, group_room c.next_group-g.ensures w, wrote_length w)
+    let l = c.loop-g.invariant in
+    let t = left_turn l.0 c.in-Some.ensures.steps in
+    let g = t.group in
+    (group_room g (rw t.before at l.1), omega (arith, g.fits), omega (arith, g.fits, length_fits g), omega (arith, g.fits, power_fits g))
 
 pub write_run-next-requires : goal.write_run-next-requires
 write_run-next-requires c =
-    let g = c.next_group-g.ensures in
-    (list_room g c.loop-i.invariant.2 (search rules), omega (arith, g.fits, c.requires.1, c.loop-i.invariant.3))
+    let l = c.loop-g.invariant in
+    let t = left_turn l.0 c.in-Some.ensures.steps in
+    (list_room t.group (rw t.place at l.2) (search rules), omega (arith, t.group.fits, c.requires.1, l.3))
 
-pub loop-i-smaller : goal.loop-i-smaller
-loop-i-smaller c =
-    let g = c.next_group-g.ensures in
-    omega (arith, group_long g, g.fits)
+pub loop-g-preserved-then-g-size : goal.loop-g-preserved-then-g-size
+loop-g-preserved-then-g-size c =
+    let l = c.loop-g.invariant in
+    let t = left_turn l.0 c.in-Some.ensures.steps in
+    let w = list_run t.group (rw t.place at l.2) c.if-g-size.true in
+    (left_next t, rw (c.write_group.ensures, t.after) (write_turn t.group (rw t.before at l.1)), rw (c.write_run-next.ensures.1, c.write_run-next.ensures.0) w, l.3)
 
-pub loop-i-preserved : goal.loop-i-preserved
-loop-i-preserved c =
-    let g = c.next_group-g.ensures in (
-      omega (arith, g.fits, c.loop-i.invariant.3),
-      rw c.write_group.ensures (write_turn g c.loop-i.invariant.1),
-      elim c.if-g-size.branch [
-        | then-g-size w ↦ rw (w.starts-is, w.write_run-next.ensures.1, w.next-is, w.write_run-next.ensures.0) (list_run g c.loop-i.invariant.2 w.if-g-size.true)
-        | else-g-size w ↦ rw (w.starts-is, w.next-is) (list_over g c.loop-i.invariant.2 w.if-g-size.false)
-      ],
-      c.loop-i.invariant.3,
-    )
-
-pub shape_of-numbers : goal.shape_of-numbers
-shape_of-numbers c = wrote_length c.loop-i.invariant.1
-
-pub shape_of-starts : goal.shape_of-starts
-shape_of-starts c = wrote_length c.loop-i.invariant.2
+pub loop-g-preserved : goal.loop-g-preserved
+loop-g-preserved c =
+    let l = c.loop-g.invariant in
+    let t = left_turn l.0 c.in-Some.ensures.steps in
+    (left_next t, rw (c.write_group.ensures, t.after) (write_turn t.group (rw t.before at l.1)), list_over t.group (rw t.place at l.2) c.if-g-size.false, l.3)
 
 pub returns : goal.returns
 returns c =
     let a = c.args in
     let t = ranked a.ranks.now a.t.now in
-    let none = ap group_numbers (suffix_end t c.loop-i.i (omega (arith, c.loop-i.invariant.3))) in
-    let listed = list_all t a.end a.size a.at a.starts.now c.requires.4 c.loop-i.invariant.2 (omega (arith, c.loop-i.invariant.3)) in
-    record { next = listed.0; groups = wrote_all (rw none at c.loop-i.invariant.1); places = listed.1 }
+    let l = c.loop-g.invariant in
+    let e = c.in-None.ensures.steps.0 in
+    let listed = list_all t a.end a.size a.at a.starts.now c.requires.4 l.2 (left_end l.0 e) in
+    record { next = listed.0; groups = wrote_all (rw e at l.1); places = listed.1 }

@@ -1,19 +1,10 @@
 -- `edited_output::write_output` meets its contract: too long a pattern, a malformed edit.csv, or an edit.
-use Rattle.edited_answer.proofs.Printed.{line_room}
 use Rattle.edited_output.proofs.Files.{prints_long, prints_malformed, prints_edit}
 use borrow.Author.Rules.{rules}
 use Rattle.edited_output.proofs.write_output.Goals as goal
 
-pub write_refusal-requires : goal.write_refusal-requires
-write_refusal-requires c =
-    line_room _ c.args.text.now (search rules) c.requires
-
 pub returns-then-pattern-gt-MAX_PATTERN : goal.returns-then-pattern-gt-MAX_PATTERN
 returns-then-pattern-gt-MAX_PATTERN c = prints_long _ _ _ (search rules) c.write_refusal.ensures
-
-pub write_refusal-requires-in_default : goal.write_refusal-requires-in_default
-write_refusal-requires-in_default c =
-    line_room _ c.args.text.now (search rules) c.requires
 
 pub returns-in_default : goal.returns-in_default
 returns-in_default c =
@@ -22,5 +13,5 @@ returns-in_default c =
 
 pub returns : goal.returns
 returns c =
-    let says = c.in-Edit.ensures in
+    let says = c.in-Some.ensures in
     prints_edit _ _ _ (search rules) says c.write_answer.ensures

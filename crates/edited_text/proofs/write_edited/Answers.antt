@@ -1,6 +1,6 @@
 -- `edited_text::write_edited` meets its contract: the row holds the edited pattern in its front, and the listing of that is written, which no ranks give.
 use mathlib.Core.List.{[]}
-use mathlib.Core.Path.{refl}
+use mathlib.Core.Path.{refl, ◌∙◌}
 use native.Mathlib.Omega.{arith}
 use Rattle.splicing.proofs.Spliced.{spliced_within, spliced_long, spliced_edited}
 use Rattle.ranks.proofs.Ranked.{no_ranks}
@@ -9,29 +9,32 @@ use Rattle.words.proofs.Edit.{length_edited}
 use Rattle.words.specs.Edit.{edited}
 use Rattle.edited_text.proofs.write_edited.Goals as goal
 
+-- stands first, so that a wrong call fails at it
 pub splice-requires : goal.splice-requires
-splice-requires c =
-    let a = c.args in
-    (c.requires.0, c.requires.1, omega (arith, length_edited a.pattern.now a.from a.to a.block.now c.requires.0 c.requires.1))
+splice-requires c = (c.requires.0, c.requires.1, omega (arith, c.requires.2))
 
 pub slice_bounds-t-end : goal.slice_bounds-t-end
 slice_bounds-t-end c =
-    let a = c.args in
-    spliced_within a.pattern.now a.from a.to a.block.now c.requires.0 c.requires.1 _ c.splice.ensures
+    let e = c.args.edit in
+    let m = c.edited_length-m.ensures ∙ length_edited e.pattern.now e.from e.to e.block.now c.requires.0 c.requires.1 in
+    rw m (spliced_within e.pattern.now e.from e.to e.block.now c.requires.0 c.requires.1 _ c.splice.ensures)
 
 pub slice_bounds-write_text-end : goal.slice_bounds-write_text-end
 slice_bounds-write_text-end c =
-    let a = c.args in
-    spliced_long a.pattern.now a.from a.to a.block.now c.requires.0 c.requires.1 _ c.splice.ensures
+    let e = c.args.edit in
+    let m = c.edited_length-m.ensures ∙ length_edited e.pattern.now e.from e.to e.block.now c.requires.0 c.requires.1 in
+    rw m (spliced_long e.pattern.now e.from e.to e.block.now c.requires.0 c.requires.1 _ c.splice.ensures)
 
 pub write_text-requires : goal.write_text-requires
 write_text-requires c =
-    let a = c.args in
-    let e = spliced_edited a.pattern.now a.from a.to a.block.now c.requires.0 c.requires.1 _ c.splice.ensures in
-    (no_ranks, rw (e, listing_none [] (edited a.pattern.now a.from a.to a.block.now) refl) c.requires.3)
+    let e = c.args.edit in
+    let m = c.edited_length-m.ensures ∙ length_edited e.pattern.now e.from e.to e.block.now c.requires.0 c.requires.1 in
+    let t = spliced_edited e.pattern.now e.from e.to e.block.now c.requires.0 c.requires.1 _ c.splice.ensures in
+    (no_ranks, rw (m, t, listing_none [] (edited e.pattern.now e.from e.to e.block.now) refl) c.requires.3)
 
 pub returns : goal.returns
 returns c =
-    let a = c.args in
-    let e = spliced_edited a.pattern.now a.from a.to a.block.now c.requires.0 c.requires.1 _ c.splice.ensures in
-    rw (e, listing_none [] (edited a.pattern.now a.from a.to a.block.now) refl) at c.write_text.ensures
+    let e = c.args.edit in
+    let m = c.edited_length-m.ensures ∙ length_edited e.pattern.now e.from e.to e.block.now c.requires.0 c.requires.1 in
+    let t = spliced_edited e.pattern.now e.from e.to e.block.now c.requires.0 c.requires.1 _ c.splice.ensures in
+    rw (m, t, listing_none [] (edited e.pattern.now e.from e.to e.block.now) refl) at c.write_text.ensures

@@ -1,12 +1,9 @@
 -- `entries::are_lengths` meets its contract: where all entries before place k of the block were found right, they are.
 use mathlib.Core.Bool.{true}
 use mathlib.Core.Path.{◌≡◌}
-use Prim.Native.Nat.{◌+◌, ◌-◌, ◌≤◌}
+use Prim.Native.Nat.{◌+◌, ◌-◌}
 use Rattle.rows.proofs.Fill.{Right}
 use Rattle.entries.proofs.are_lengths.Given as goal
 
 abbrev pub invariant-loop-k : goal.invariant-loop-k
-invariant-loop-k l = (l.k ≤ 16) × (l.all ≡ true → Right (λ x. x + 1 - l.i) l.table l.at (l.at + l.k))
-
-abbrev pub decreases-loop-k : goal.decreases-loop-k
-decreases-loop-k l = 16 - l.k
+invariant-loop-k l = l.all ≡ true → Right (λ x. x + 1 - l.i) l.table l.at (l.at + l.k)

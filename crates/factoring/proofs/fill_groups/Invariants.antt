@@ -1,16 +1,16 @@
 -- `factoring::fill_groups` meets its contract: what is still to be written are the numbers of the groups that are left, three of each.
 use mathlib.Core.Path.{◌≡◌}
-use Prim.Native.Nat.{◌≤◌, ◌-◌}
 use lib.ListN.{length}
 use Rattle.ranks.specs.Ranks.{ranked}
 use Rattle.words.specs.Factors.{group_numbers}
 use Rattle.words.specs.Tables.{suffix_groups}
 use Rattle.rows.proofs.Wrote.{Wrote}
+use Rattle.scan.proofs.Left.{Left}
 use Rattle.factoring.proofs.fill_groups.Given as goal
 
-abbrev pub invariant-loop-start : goal.invariant-loop-start
-invariant-loop-start l = (l.start ≤ length l.s) × Wrote (group_numbers (suffix_groups (ranked l.ranks l.s) l.from)) l.initial.row l.row l.at (group_numbers (suffix_groups (ranked l.ranks l.s) l.start))
-    × (length (ranked l.ranks l.s) ≡ length l.s)
-
-abbrev pub decreases-loop-start : goal.decreases-loop-start
-decreases-loop-start l = length l.s - l.start
+abbrev pub invariant-loop-g : goal.invariant-loop-g
+invariant-loop-g l =
+    let s = ranked l.ranks l.s in
+    let it = l.g-iterator in
+    let gs = suffix_groups (ranked it.ranks.now it.s.now) it.at in
+    Left s gs × Wrote (group_numbers (suffix_groups s l.from)) l.initial.row l.row l.at (group_numbers gs) × (length s ≡ length l.s)

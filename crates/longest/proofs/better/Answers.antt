@@ -1,18 +1,21 @@
 -- `longest::better` meets its contract: the longer of the two, or both.
-use mathlib.Core.Path.{sym}
+use Rattle.std.proofs.Common.{sym}
+use Rattle.std.proofs.lemmas.Cmp.{ranked}
+use Rattle.std.specs.declared.cmp.Ordering.TheVariants.{Less, Equal, Greater}
 use Rattle.longest.proofs.Seen.{better_longer, better_shorter, better_equal}
-use borrow.Author.Rules.{rules}
-use native.Mathlib.Omega.{arith}
 use Rattle.longest.proofs.better.Goals as goal
 
-pub returns-then-best-length : goal.returns-then-best-length
-returns-then-best-length c =
-    sym (better_longer c.args.best c.args.start c.args.length c.args.power (search rules))
+pub returns-in-Less : goal.returns-in-Less
+returns-in-Less c =
+    let a = c.args in
+    sym (better_longer a.best a.start a.length a.power (ranked a.best.length a.length Less c.in-Less.ensures))
 
-pub returns-then-length-best : goal.returns-then-length-best
-returns-then-length-best c =
-    sym (better_shorter c.args.best c.args.start c.args.length c.args.power (search rules))
+pub returns-in-Equal : goal.returns-in-Equal
+returns-in-Equal c =
+    let a = c.args in
+    sym (better_equal a.best a.start a.length a.power (ranked a.best.length a.length Equal c.in-Equal.ensures))
 
-pub returns : goal.returns
-returns c =
-    sym (better_equal c.args.best c.args.start c.args.length c.args.power (omega arith))
+pub returns-in-Greater : goal.returns-in-Greater
+returns-in-Greater c =
+    let a = c.args in
+    sym (better_shorter a.best a.start a.length a.power (ranked a.best.length a.length Greater c.in-Greater.ensures))

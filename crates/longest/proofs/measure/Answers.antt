@@ -1,29 +1,35 @@
--- `longest::measure` meets its contract: `best` is the longest of the groups before place i, and `run` the power of its group.
+-- `longest::measure` meets its contract: `best` is the longest of the groups that were gone over, and `run` the power of its group.
+use mathlib.Core.Path.{◌≡◌}
 use Rattle.ranks.specs.Ranks.{ranked}
 use Rattle.ranks.proofs.Ranked.{length_ranked}
-use Rattle.scan.proofs.Next.{group_long}
+use Rattle.words.specs.Tables.{suffix_groups}
+use Rattle.scan.proofs.Left.{left_turn, left_next, left_end}
 use Rattle.longest.proofs.Seen.{measured_none, measured_fits, measured_more, measured_all}
-use borrow.Author.Rules.{rules}
 use native.Mathlib.Omega.{arith}
 use Rattle.longest.proofs.measure.Goals as goal
 
-pub loop-i-init : goal.loop-i-init
-loop-i-init c =
+pub loop-g-init : goal.loop-g-init
+loop-g-init c =
     let a = c.args in
-    (measured_none (ranked a.ranks.now a.s.now), length_ranked a.ranks.now a.s.now)
+    let s = ranked a.ranks.now a.s.now in
+    let it = c.into_iter-g-iterator.result in
+    let e : suffix_groups (ranked it.ranks.now it.s.now) it.at ≡ suffix_groups s 0 = cc in
+    (record { at = 0; fits = omega arith; is = e }, measured_none s, length_ranked a.ranks.now a.s.now)
 
 pub better-best-requires : goal.better-best-requires
-better-best-requires c = omega (arith, measured_fits c.loop-i.invariant.0 c.next_group-g.ensures)
+better-best-requires c =
+    let l = c.loop-g.invariant in
+    let t = left_turn l.0 c.in-Some.ensures.steps in
+    omega (arith, measured_fits (rw t.place at l.1) t.group)
 
-pub loop-i-smaller : goal.loop-i-smaller
-loop-i-smaller c = omega (arith, group_long c.next_group-g.ensures)
-
-pub loop-i-preserved : goal.loop-i-preserved
-loop-i-preserved c =
-    let l = c.loop-i in
-    (rw (c.better-best.ensures, c.first_run-run.ensures) (measured_more l.invariant.0 c.next_group-g.ensures), l.invariant.1)
+pub loop-g-preserved : goal.loop-g-preserved
+loop-g-preserved c =
+    let l = c.loop-g.invariant in
+    let t = left_turn l.0 c.in-Some.ensures.steps in
+    (left_next t, rw (c.better-best.ensures, c.first_run-run.ensures) (measured_more (rw t.place at l.1) t.group), l.2)
 
 pub returns : goal.returns
 returns c =
     let a = c.args in
-    measured_all (ranked a.ranks.now a.s.now) c.loop-i.invariant.0 (search rules)
+    let l = c.loop-g.invariant in
+    measured_all (ranked a.ranks.now a.s.now) l.1 (left_end l.0 c.in-None.ensures.steps.0)

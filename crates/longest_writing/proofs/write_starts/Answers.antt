@@ -1,40 +1,50 @@
--- `longest_writing::write_starts` meets its contract: the starts of the groups before place i stand in the row, and the others are left.
+-- `longest_writing::write_starts` meets its contract: the starts of the groups that were gone over stand in the row, and the others are left.
+use mathlib.Core.Path.{◌≡◌}
 use Rattle.ranks.specs.Ranks.{ranked}
 use Rattle.ranks.proofs.Ranked.{length_ranked}
+use Rattle.words.specs.Tables.{suffix_groups}
 use Rattle.rows.proofs.Wrote.{wrote_length}
-use Rattle.scan.proofs.Next.{group_long}
+use Rattle.scan.proofs.Left.{left_turn, left_next, left_end}
 use Rattle.longest_writing.proofs.Writes.{list_none, list_room, list_run, list_over, list_all}
 use borrow.Author.Rules.{rules}
 use native.Mathlib.Omega.{arith}
 use Rattle.longest_writing.proofs.write_starts.Goals as goal
-use Rattle.longest_writing.proofs.write_starts.Goals.{then-g-size, else-g-size}
 
-pub loop-i-init : goal.loop-i-init
-loop-i-init c =
+pub loop-g-init : goal.loop-g-init
+loop-g-init c =
     let a = c.args in
-    (list_none (ranked a.ranks.now a.s.now) a.from a.size a.at a.row.now (search rules), length_ranked a.ranks.now a.s.now)
+    let s = ranked a.ranks.now a.s.now in
+    let it = c.into_iter-g-iterator.result in
+    let e : suffix_groups (ranked it.ranks.now it.s.now) it.at ≡ suffix_groups s a.from = cc in (
+      record { at = a.from; fits = omega (arith, length_ranked a.ranks.now a.s.now); is = e },
+      list_none s a.from a.size a.at a.row.now (search rules),
+      length_ranked a.ranks.now a.s.now,
+    )
 
 pub write_run-next-requires : goal.write_run-next-requires
 write_run-next-requires c =
-    (list_room c.next_group-g.ensures c.loop-i.invariant.0 (search rules), search rules)
+    let l = c.loop-g.invariant in
+    let t = left_turn l.0 c.in-Some.ensures.steps in
+    (list_room t.group (rw t.place at l.1) (search rules), omega (arith, t.group.fits))
 
-pub loop-i-smaller : goal.loop-i-smaller
-loop-i-smaller c = omega (arith, group_long c.next_group-g.ensures)
+pub loop-g-preserved-then-g-size : goal.loop-g-preserved-then-g-size
+loop-g-preserved-then-g-size c =
+    let l = c.loop-g.invariant in
+    let t = left_turn l.0 c.in-Some.ensures.steps in
+    let w = list_run t.group (rw t.place at l.1) c.if-g-size.true in
+    (left_next t, rw (c.write_run-next.ensures.1, c.write_run-next.ensures.0) w, l.2)
 
-pub loop-i-preserved : goal.loop-i-preserved
-loop-i-preserved c =
-    let turn = c.loop-i.invariant.0 in (
-      elim c.if-g-size.branch [
-        | then-g-size w ↦ rw (w.row-is, w.write_run-next.ensures.1, w.next-is, w.write_run-next.ensures.0) (list_run c.next_group-g.ensures turn w.if-g-size.true)
-        | else-g-size w ↦ rw (w.row-is, w.next-is) (list_over c.next_group-g.ensures turn w.if-g-size.false)
-      ],
-      c.loop-i.invariant.1,
-    )
+pub loop-g-preserved : goal.loop-g-preserved
+loop-g-preserved c =
+    let l = c.loop-g.invariant in
+    let t = left_turn l.0 c.in-Some.ensures.steps in
+    (left_next t, list_over t.group (rw t.place at l.1) c.if-g-size.false, l.2)
 
 pub shape_of-row : goal.shape_of-row
-shape_of-row c = wrote_length c.loop-i.invariant.0
+shape_of-row c = wrote_length c.loop-g.invariant.1
 
 pub returns : goal.returns
 returns c =
     let a = c.args in
-    list_all (ranked a.ranks.now a.s.now) a.from a.size a.at a.row.now (search rules) c.loop-i.invariant.0 (search rules)
+    let l = c.loop-g.invariant in
+    list_all (ranked a.ranks.now a.s.now) a.from a.size a.at a.row.now (search rules) l.1 (left_end l.0 c.in-None.ensures.steps.0)

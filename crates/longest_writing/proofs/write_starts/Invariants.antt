@@ -1,13 +1,14 @@
--- `longest_writing::write_starts` meets its contract: the starts of the groups before place i stand in the row, and the others are left.
+-- `longest_writing::write_starts` meets its contract: the starts of the groups that were gone over stand in the row, and the others are left.
 use mathlib.Core.Path.{◌≡◌}
-use Prim.Native.Nat.{◌-◌}
 use lib.ListN.{length}
 use Rattle.ranks.specs.Ranks.{ranked}
+use Rattle.words.specs.Tables.{suffix_groups}
+use Rattle.scan.proofs.Left.{Left}
 use Rattle.longest_writing.proofs.Writes.{Listed}
 use Rattle.longest_writing.proofs.write_starts.Given as goal
 
-abbrev pub invariant-loop-i : goal.invariant-loop-i
-invariant-loop-i l = Listed (ranked l.ranks l.s) l.from l.size l.at l.initial.row l.row l.next l.i × (length (ranked l.ranks l.s) ≡ length l.s)
-
-abbrev pub decreases-loop-i : goal.decreases-loop-i
-decreases-loop-i l = length l.s - l.i
+abbrev pub invariant-loop-g : goal.invariant-loop-g
+invariant-loop-g l =
+    let s = ranked l.ranks l.s in
+    let it = l.g-iterator in
+    (left : Left s (suffix_groups (ranked it.ranks.now it.s.now) it.at)) × Listed s l.from l.size l.at l.initial.row l.row l.next left.at × (length s ≡ length l.s)

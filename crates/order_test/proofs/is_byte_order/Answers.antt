@@ -1,22 +1,11 @@
 -- `order_test::is_byte_order` meets its contract: the ranks before i are those of byte order.
-use Rattle.std.proofs.Common.{◌≡◌, refl, arith, rules}
-use Rattle.words.proofs.Bounded.{true_false}
+use Rattle.std.proofs.Common.{refl, arith, rules}
 use Rattle.rows.proofs.Fill.{right_one}
 use Rattle.ranks.proofs.Ranked.{byte_order_is, rising_on}
 use Rattle.order_test.proofs.is_byte_order.Goals as goal
 
-pub returns-then-order-ne0 : goal.returns-then-order-ne0
-returns-then-order-ne0 c = λ e. absurd (true_false e refl)
-
 pub loop-i-init : goal.loop-i-init
 loop-i-init c = (search rules, search rules, refl, right_one _ c.args.order.now 0 1 refl (search rules))
-
-pub rising_block-requires : goal.rising_block-requires
-rising_block-requires c =
-    (search rules, omega (arith, c.requires))
-
-pub returns-then-not-rising_block : goal.returns-then-not-rising_block
-returns-then-not-rising_block c = λ e. absurd (true_false e refl)
 
 pub loop-i-preserved : goal.loop-i-preserved
 loop-i-preserved c =
@@ -28,12 +17,7 @@ loop-i-preserved c =
           (c.rising_block.ensures c.if-not-rising_block.false),
     )
 
-pub rising_block-requires-2 : goal.rising_block-requires-2
-rising_block-requires-2 c =
-    (search rules, omega (arith, c.requires))
-
 pub returns : goal.returns
 returns c =
-    let q : c.loop-i.i ≡ 241 = omega arith in
     λ e. byte_order_is c.args.order.now c.requires
     (rising_on c.args.order.now 240 16 (omega arith) (omega arith) (λ k a b. c.loop-i.invariant.3 k a (omega arith)) (c.rising_block-2.ensures e))

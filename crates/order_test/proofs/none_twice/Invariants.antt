@@ -1,10 +1,6 @@
--- `order_test::none_twice` meets its contract: the marks tell which ranks stood before place k, each once.
-use Rattle.std.proofs.Common.{◌-◌, length}
+-- `order_test::none_twice` meets its contract: the marks tell which ranks stood before this place, each once.
 use Rattle.ranks.proofs.Marks.{Marked}
 use Rattle.order_test.proofs.none_twice.Given as goal
 
-abbrev pub invariant-loop-k : goal.invariant-loop-k
-invariant-loop-k l = Marked l.order l.marks l.k
-
-abbrev pub decreases-loop-k : goal.decreases-loop-k
-decreases-loop-k l = length l.order - l.k
+abbrev pub invariant-loop-rank : goal.invariant-loop-rank
+invariant-loop-rank l = Marked l.order l.marks l.rank-index

@@ -13,7 +13,7 @@ loop-k-init c =
 pub loop-k-preserved : goal.loop-k-preserved
 loop-k-preserved c =
     let b = c.args in
-    (search rules, block_test b.order.now b.i c.loop-k.k _ c.loop-k.all c.loop-k.invariant.1 c.wrapping_add_u8-y.ensures.value)
+    (search rules, block_test b.order.now b.i c.loop-k.k _ c.loop-k.all c.loop-k.invariant.1 c.wrapping_add_u8-next.ensures.value)
 
 pub returns : goal.returns
 returns c =

@@ -1,28 +1,25 @@
--- `prefix_chain::count_prefix` meets its contract: the groups counted and those of the rest are all.
-use mathlib.Core.Path.{ap}
-use lib.ListN.{length}
-use Rattle.ranks.specs.Ranks.{ranked}
-use Rattle.scan.proofs.Pass.{stretches}
-use Rattle.prefix_chain.proofs.TurnBack.{prefix_none, count_turn}
-use borrow.Author.Rules.{rules}
+-- `prefix_chain::count_prefix` meets its contract: there are no more groups than symbols.
+use mathlib.Core.Logic.{inl}
+use mathlib.Core.Path.{refl, ◌∙◌}
+use Rattle.std.proofs.lemmas.Iterator.Consumers.{YieldsList-from_first, count_from_yields_List}
+use Rattle.scan.specs.Group.{group_of}
+use Rattle.std.specs.Prelude.{reverse}
+use Rattle.words.specs.Tables.{prefix_groups}
 use native.Mathlib.Omega.{arith}
+use Rattle.ranks.specs.Ranks.{ranked}
+use Rattle.ranks.proofs.Ranked.{length_ranked}
+use Rattle.prefix_chain.proofs.TurnBack.{prefix_few, back_count}
 use Rattle.prefix_chain.proofs.count_prefix.Goals as goal
 
-pub overflow_sub-rest : goal.overflow_sub-rest
-overflow_sub-rest c =
-    let g = c.group_before-last.ensures in
-    omega (arith, stretches g.factor g.some)
-
-pub loop-rest-smaller : goal.loop-rest-smaller
-loop-rest-smaller c =
-    let g = c.group_before-last.ensures in
-    omega (arith, stretches g.factor g.some)
-
-pub loop-rest-preserved : goal.loop-rest-preserved
-loop-rest-preserved c =
-    let g = c.group_before-last.ensures in
-    (omega (arith, stretches g.factor g.some), count_turn g c.loop-rest.count _ c.loop-rest.invariant.1)
+pub count-requires-clause-fits : goal.count-requires-clause-fits
+count-requires-clause-fits c =
+    let a = c.args in
+    let s = ranked a.ranks.now a.s.now in
+    inl (omega (arith, prefix_few s a.end, back_count s a.end, length_ranked a.ranks.now a.s.now))
 
 pub returns : goal.returns
 returns c =
-    omega (arith, ap length (prefix_none (ranked c.args.ranks.now c.args.s.now) c.loop-rest.rest (search rules)))
+    let a = c.args in
+    let s = ranked a.ranks.now a.s.now in
+    let all = YieldsList-from_first (λ g. group_of g.start g.length g.power) (λ it. reverse (prefix_groups (ranked it.ranks.now it.s.now) it.end)) (reverse (prefix_groups s a.end)) refl in
+    count_from_yields_List _ c.count.result c.count.ensures.ran all ∙ back_count s a.end

@@ -1,5 +1,4 @@
 -- `prefix_chain::group_before` meets its contract: the loop counts equal factors back, and where it stops the group is read off.
-use Prim.Native.Nat.{◌-◌}
 use Rattle.ranks.specs.Ranks.{Bytes, ranked}
 use Rattle.ranks.proofs.Ranked.{length_ranked}
 use Rattle.prefix_chain.proofs.Before.{equal_start, equal_turn, stop_start, stop_length, stop_word, table_room, table_entry, table_fits}
@@ -11,10 +10,6 @@ pub bounds-table-q : goal.bounds-table-q
 bounds-table-q c =
     omega (arith, table_room c.args.ranks.now c.args.s.now c.args.table.now c.requires.3)
 
-pub overflow_cast-length : goal.overflow_cast-length
-overflow_cast-length c =
-    omega (arith, c.shared_slice_known-4-1.given (c.args.q - 1))
-
 pub overflow_sub-from : goal.overflow_sub-from
 overflow_sub-from c =
     omega (arith, table_fits c.args.ranks.now c.args.s.now c.args.table.now c.requires.3 c.args.q c.requires.1 c.requires.2)
@@ -24,13 +19,6 @@ loop-j-init c =
     let e = table_entry c.args.ranks.now c.args.s.now c.args.table.now c.requires.3 c.args.q c.requires.1 c.requires.2 in
     let m = length_ranked c.args.ranks.now c.args.s.now in
     (equal_start (ranked c.args.ranks.now c.args.s.now) c.args.q _ c.requires.1 (omega arith) e, m)
-
-pub bounds-table-j : goal.bounds-table-j
-bounds-table-j c =
-    omega (arith, table_room c.args.ranks.now c.args.s.now c.args.table.now c.requires.3)
-
-pub overflow_cast-table : goal.overflow_cast-table
-overflow_cast-table c = omega (arith, c.shared_slice_known-in-loop-j-1.given (c.loop-j.j - 1))
 
 pub returns-then-table-j : goal.returns-then-table-j
 returns-then-table-j c =
@@ -44,13 +32,13 @@ overflow_sub-back c =
 pub returns-then-not-agree : goal.returns-then-not-agree
 returns-then-not-agree c =
     let e = table_entry c.args.ranks.now c.args.s.now c.args.table.now c.requires.3 c.loop-j.j (search rules) (search rules) in
-    let bytes : Bytes c.args.s.now = λ i h. omega (arith, c.shared_slice_known-1.given i) in
+    let bytes : Bytes c.args.s.now = λ i h. omega (arith, c.type_inv.s i) in
     stop_word c.requires.0 c.args.s.now bytes c.loop-j.invariant.0 (search rules) e (search rules) c.agree.ensures c.if-not-agree.true
 
 pub loop-j-preserved : goal.loop-j-preserved
 loop-j-preserved c =
     let e = table_entry c.args.ranks.now c.args.s.now c.args.table.now c.requires.3 c.loop-j.j (search rules) (search rules) in
-    let bytes : Bytes c.args.s.now = λ i h. omega (arith, c.shared_slice_known-1.given i) in (
+    let bytes : Bytes c.args.s.now = λ i h. omega (arith, c.type_inv.s i) in (
       equal_turn c.requires.0 c.args.s.now bytes c.loop-j.invariant.0 (search rules) e (search rules) c.agree.ensures
           c.if-not-agree.false,
       c.loop-j.invariant.1,

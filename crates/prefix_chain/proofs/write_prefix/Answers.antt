@@ -1,75 +1,47 @@
--- `prefix_chain::write_prefix` meets its contract: the numbers of the groups that stand from q on are written, and those of the others are left.
-use lib.ListN.{length-set}
+-- `prefix_chain::write_prefix` meets its contract: what is still to be written are the numbers of the groups that are left.
+use mathlib.Core.Path.{◌≡◌}
+use Rattle.std.specs.Prelude.{reverse}
+use Rattle.words.specs.Tables.{prefix_groups}
 use Rattle.ranks.specs.Ranks.{ranked}
-use Rattle.rows.proofs.Back.{back_length}
+use Rattle.ranks.proofs.Ranked.{length_ranked}
 use Rattle.scan.proofs.Pass.{stretches}
-use Rattle.prefix_chain.proofs.TurnBack.{write_start, write_room, write_turn, write_end}
+use Rattle.prefix_chain.proofs.TurnBack.{write_start, write_room, write_turn, write_end, left_turn, left_next, left_end}
 use borrow.Author.Rules.{rules}
 use native.Mathlib.Omega.{arith}
 use Rattle.prefix_chain.proofs.write_prefix.Goals as goal
 
-pub loop-q-init : goal.loop-q-init
-loop-q-init c =
-    (search rules, write_start (ranked c.args.ranks.now c.args.s.now) c.args.row.now c.args.end c.args.count (search rules) (search rules))
+pub loop-g-init : goal.loop-g-init
+loop-g-init c =
+    let a = c.args in
+    let s = ranked a.ranks.now a.s.now in
+    let it = c.into_iter-g-iterator.result in
+    let e : reverse (prefix_groups (ranked it.ranks.now it.s.now) it.end) ≡ reverse (prefix_groups s a.end) = cc in (
+      record { end = a.end; fits = omega (arith, length_ranked a.ranks.now a.s.now); is = e },
+      omega arith,
+      write_start s a.row.now a.end a.count (search rules) (search rules),
+    )
 
 pub overflow_sub-at : goal.overflow_sub-at
 overflow_sub-at c =
-    omega (arith, write_room c.group_before-last.ensures c.loop-q.invariant.1)
+    let l = c.loop-g.invariant in
+    let t = left_turn l.0 c.in-Some.ensures.steps in
+    omega (arith, write_room t.group l.2)
 
-pub offset_bounds-row-at : goal.offset_bounds-row-at
-offset_bounds-row-at c =
-    omega (arith, write_room c.group_before-last.ensures c.loop-q.invariant.1, c.well_formed.1.1.1.1.1)
+pub write_group-requires : goal.write_group-requires
+write_group-requires c =
+    let l = c.loop-g.invariant in
+    let t = left_turn l.0 c.in-Some.ensures.steps in
+    let s = stretches t.group.factor t.group.some in
+    (omega (arith, write_room t.group l.2), omega (arith, t.place, l.1), omega (arith, s, t.group.fits, l.1), omega (arith, s, t.group.fits, l.1))
 
-pub bounds-row-at : goal.bounds-row-at
-bounds-row-at c =
-    omega (arith, write_room c.group_before-last.ensures c.loop-q.invariant.1)
-
-pub overflow_cast-row-in-loop-q : goal.overflow_cast-row-in-loop-q
-overflow_cast-row-in-loop-q c =
-    let g = c.group_before-last.ensures in
-    omega (arith, stretches g.factor g.some)
-
-pub overflow_add-row : goal.overflow_add-row
-overflow_add-row c =
-    omega (arith, write_room c.group_before-last.ensures c.loop-q.invariant.1, c.well_formed.1.1.1.1.1)
-
-pub offset_bounds-row-at-in-loop-q : goal.offset_bounds-row-at-in-loop-q
-offset_bounds-row-at-in-loop-q c =
-    omega (arith, write_room c.group_before-last.ensures c.loop-q.invariant.1, c.well_formed.1.1.1.1.1)
-
-pub bounds-row-at-in-loop-q : goal.bounds-row-at-in-loop-q
-bounds-row-at-in-loop-q c =
-    simp length-set (omega (arith, write_room c.group_before-last.ensures c.loop-q.invariant.1))
-
-pub overflow_cast-row-in-loop-q-2 : goal.overflow_cast-row-in-loop-q-2
-overflow_cast-row-in-loop-q-2 c =
-    let g = c.group_before-last.ensures in
-    omega (arith, stretches g.factor g.some)
-
-pub overflow_add-row-in-loop-q : goal.overflow_add-row-in-loop-q
-overflow_add-row-in-loop-q c =
-    omega (arith, write_room c.group_before-last.ensures c.loop-q.invariant.1, c.well_formed.1.1.1.1.1)
-
-pub offset_bounds-row-at-in-loop-q-2 : goal.offset_bounds-row-at-in-loop-q-2
-offset_bounds-row-at-in-loop-q-2 c =
-    omega (arith, write_room c.group_before-last.ensures c.loop-q.invariant.1, c.well_formed.1.1.1.1.1)
-
-pub bounds-row-at-in-loop-q-2 : goal.bounds-row-at-in-loop-q-2
-bounds-row-at-in-loop-q-2 c =
-    simp length-set (omega (arith, write_room c.group_before-last.ensures c.loop-q.invariant.1))
-
-pub loop-q-smaller : goal.loop-q-smaller
-loop-q-smaller c =
-    let g = c.group_before-last.ensures in
-    omega (arith, stretches g.factor g.some)
-
-pub loop-q-preserved : goal.loop-q-preserved
-loop-q-preserved c =
-    (search rules, write_turn c.group_before-last.ensures c.loop-q.invariant.1)
-
-pub shape_of-row : goal.shape_of-row
-shape_of-row c = back_length c.loop-q.invariant.1
+pub loop-g-preserved : goal.loop-g-preserved
+loop-g-preserved c =
+    let l = c.loop-g.invariant in
+    let t = left_turn l.0 c.in-Some.ensures.steps in
+    (left_next l.0.fits t, omega (arith, t.place, l.1), rw c.write_group.ensures (write_turn t.group t.place l.2))
 
 pub returns : goal.returns
 returns c =
-    write_end (ranked c.args.ranks.now c.args.s.now) c.loop-q.q (search rules) c.loop-q.invariant.1
+    let a = c.args in
+    let l = c.loop-g.invariant in
+    write_end (ranked a.ranks.now a.s.now) l.0.end (left_end l.0 c.in-None.ensures.steps.0) l.2

@@ -1,19 +1,15 @@
--- `prefix_making::make_from` meets its contract: the loops keep the state of Duval's scan and the entries up to j.
-use mathlib.Core.Path.{◌≡◌}
+-- `prefix_making::make_from` meets its contract: the loops keep the state of Duval's scan and the entries up to j, and to k.
 use Prim.Native.Nat.{◌-◌, ◌≤◌, ◌<◌}
 use lib.ListN.{length}
 use Rattle.ranks.specs.Ranks.{ranked}
 use Rattle.prefix_making_leaps.specs.Making.{Making}
 use Rattle.prefix_making.proofs.make_from.Given as goal
 
-abbrev pub invariant-loop-j-2 : goal.invariant-loop-j-2
-invariant-loop-j-2 l = (l.j ≤ l.stop) × (l.stop ≤ length l.s) × Making (ranked l.ranks l.s) l.initial.table l.table l.i l.j l.p × (length (ranked l.ranks l.s) ≡ length l.s)
-
-abbrev pub decreases-loop-j-2 : goal.decreases-loop-j-2
-decreases-loop-j-2 l = length l.s - l.j
+abbrev pub invariant-loop-k : goal.invariant-loop-k
+invariant-loop-k l = Making (ranked l.ranks l.s) l.initial.table l.table l.i l.k l.p
 
 abbrev pub invariant-loop-j : goal.invariant-loop-j
-invariant-loop-j l = (0 < l.gap) × (l.gap ≤ 256) × Making (ranked l.ranks l.s) l.initial.table l.table l.i l.j l.p × (length (ranked l.ranks l.s) ≡ length l.s)
+invariant-loop-j l = (0 < l.gap) × (l.gap ≤ 256) × Making (ranked l.ranks l.s) l.initial.table l.table l.i l.j l.p
 
 abbrev pub decreases-loop-j : goal.decreases-loop-j
 decreases-loop-j l = length l.s - l.j

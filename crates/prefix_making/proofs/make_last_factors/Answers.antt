@@ -6,8 +6,7 @@ use Rattle.ranks.proofs.Ranked.{length_ranked}
 use Rattle.rows.proofs.Fill.{filled_none, filled_all}
 use Rattle.prefix_table.specs.State.{last_to}
 use Rattle.prefix_table.proofs.Last.{last_table}
-use Rattle.prefix_table.proofs.Pass.{reached_start, reached_next, reached_factor}
-use Rattle.prefix_making.proofs.Making.{pass_made}
+use Rattle.prefix_table.proofs.Pass.{reached_start}
 use native.Mathlib.Omega.{arith}
 use Rattle.prefix_making.proofs.make_last_factors.Goals as goal
 
@@ -15,23 +14,6 @@ pub loop-i-init : goal.loop-i-init
 loop-i-init c =
     let s = ranked c.args.ranks.now c.args.s.now in
     (reached_start s, filled_none (last_to s) (length s) c.args.table.now 0, length_ranked c.args.ranks.now c.args.s.now)
-
-pub make_from-i-requires : goal.make_from-i-requires
-make_from-i-requires c =
-    (c.requires.0, reached_factor c.loop-i.invariant.0 (omega arith), omega arith, omega arith)
-
-pub loop-i-smaller : goal.loop-i-smaller
-loop-i-smaller c =
-    let next = c.make_from-i.ensures.next in
-    omega (arith, next.later, next.within, c.loop-i.invariant.2)
-
-pub loop-i-preserved : goal.loop-i-preserved
-loop-i-preserved c =
-    let made = c.make_from-i.ensures in
-    (reached_next made.next, pass_made c.loop-i.invariant.1 made, c.loop-i.invariant.2)
-
-pub shape_of-table : goal.shape_of-table
-shape_of-table c = c.loop-i.invariant.1.size
 
 pub returns : goal.returns
 returns c =

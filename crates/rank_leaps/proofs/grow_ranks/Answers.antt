@@ -1,22 +1,8 @@
 -- `rank_leaps::grow_ranks` meets its contract: the word grows over ranks above its first, or to the last byte that is not its first in blocks that break.
-use Prim.Native.Nat.{◌+◌, ◌<◌, ◌≤◌}
-use lib.ListN.{length, get_or}
-use native.Mathlib.Omega.{arith}
+use Rattle.std.proofs.Common.{◌+◌, ◌<◌, ◌≤◌, length, get_or, arith}
 use Rattle.ranks.proofs.Ranked.{length_ranked, get_or_ranked}
 use Rattle.rank_leaps.proofs.Breaking.{grow_above, grow_broken}
 use Rattle.rank_leaps.proofs.grow_ranks.Goals as goal
-
-pub bounds-s-i : goal.bounds-s-i
-bounds-s-i c =
-    omega (arith, c.requires.2, c.requires.3.fits, c.requires.3.ends, length_ranked c.args.ranks.now c.args.s.now)
-
-pub breaks-requires : goal.breaks-requires
-breaks-requires c =
-    omega (arith, c.requires.2, c.requires.3.fits, c.requires.3.ends, length_ranked c.args.ranks.now c.args.s.now)
-
-pub ranks_above-requires : goal.ranks_above-requires
-ranks_above-requires c =
-    (c.requires.1, omega (arith, c.requires.3.ends, length_ranked c.args.ranks.now c.args.s.now))
 
 pub returns-then-breaks : goal.returns-then-breaks
 returns-then-breaks c =
@@ -27,15 +13,11 @@ returns-then-breaks c =
     let r = c.ranks_above.ensures in
     (r.0, grow_above c.requires.3 (rw (← get_or_ranked o s c.args.i h) at r.2) r.0 (omega (arith, r.1, e)))
 
-pub ranks_run-k-requires : goal.ranks_run-k-requires
-ranks_run-k-requires c =
-    (c.requires.1, omega (arith, c.requires.3.ends, length_ranked c.args.ranks.now c.args.s.now))
-
 pub returns : goal.returns
 returns c =
-    let known = c.shared_slice_known-3-1.given in
     let o = c.args.ranks.now in
     let s = c.args.s.now in
+    let known = c.type_inv.s in
     let h : c.args.i + 8 ≤ length s = omega (arith, c.requires.2, c.requires.3.fits, c.requires.3.ends, length_ranked o s) in
     let b = c.breaks.ensures.1 c.if-breaks.false in
     let p = c.ranks_run-k.ensures in

@@ -1,13 +1,8 @@
--- `rank_leaps::least_ranks` meets its contract: where the ranks of all bytes before place u passed, they are d or above.
-use mathlib.Core.Bool.{true}
-use mathlib.Core.Path.{◌≡◌}
-use Prim.Native.Nat.{◌+◌, ◌-◌, ◌≤◌}
+-- `rank_leaps::least_ranks` meets its contract: where the ranks of all bytes before place j + u passed, they are d or above.
+use Rattle.std.proofs.Common.{◌≡◌, ◌+◌, true}
 use Rattle.ranks.specs.Ranks.{ranked}
 use Rattle.rank_leaps.specs.Broken.{AtLeast}
 use Rattle.rank_leaps.proofs.least_ranks.Given as goal
 
 abbrev pub invariant-loop-u : goal.invariant-loop-u
-invariant-loop-u l = (l.u ≤ 16) × (l.all ≡ true → AtLeast (ranked l.ranks l.s) l.d l.j (l.j + l.u))
-
-abbrev pub decreases-loop-u : goal.decreases-loop-u
-decreases-loop-u l = 16 - l.u
+invariant-loop-u l = l.all ≡ true → AtLeast (ranked l.ranks l.s) l.d l.j (l.j + l.u)

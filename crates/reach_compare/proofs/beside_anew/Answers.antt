@@ -1,12 +1,10 @@
 -- `reach_compare::beside_anew` meets its contract: where the first symbols differ they say which word is smaller.
-use mathlib.Core.Logic.{⊎_elim}
 use mathlib.Core.Path.{sym, ◌∙◌}
 use Prim.Native.Nat.{◌<◌}
 use lib.ListN.{length}
 use native.Mathlib.Omega.{arith}
 use Rattle.ranks.specs.Ranks.{ranked}
 use Rattle.ranks.proofs.Ranked.{length_ranked}
-use Rattle.agreeing.proofs.Alike.{agrees_none}
 use Rattle.memo.proofs.Together.{alike_none}
 use Rattle.reach_compare.proofs.Bytes.{below_smaller, below_apart, first_differ}
 use Rattle.reach_compare.proofs.beside_anew.Goals as goal
@@ -25,8 +23,3 @@ returns-then-c-d c =
           ∙ sym (first_differ (ranked o s) c.args.i c.args.j c.args.y c.requires.1 c.requires.2 (rw (length_ranked o s) c.requires.3)
           (below_apart o s c.args.i c.args.j p q n b.result b.ensures));
     }
-
-pub beside_from-requires : goal.beside_from-requires
-beside_from-requires c =
-    let n = c.shorter.ensures in
-    (c.requires.0, record { follows = c.requires.1; fits = c.requires.3; first = n.0; second = n.1; shorter = n.2 }, ⊎_elim (λ h. omega (arith, c.requires.1)) (λ h. omega (arith, c.requires.2)) n.2, agrees_none)

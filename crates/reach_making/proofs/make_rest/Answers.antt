@@ -1,4 +1,4 @@
--- `reach_making::make_rest` meets its contract: the memo begins as zeros.
+-- `reach_making::make_rest` meets its contract: the memo begins with empty slots.
 use Rattle.ranks.specs.Ranks.{ranked}
 use Rattle.memo.proofs.Slots.{memo_start}
 use Rattle.reach_making.proofs.make_rest.Goals as goal

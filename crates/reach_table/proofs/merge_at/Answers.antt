@@ -1,9 +1,8 @@
 -- `reach_table::merge_at` meets its contract: the word at i takes in the next word while that is greater.
-use mathlib.Core.Path.{◌∙◌}
 use Rattle.ranks.specs.Ranks.{ranked}
 use Rattle.ranks.proofs.Ranked.{length_ranked}
 use borrow.Author.Tests.{not-true, not-false}
-use Rattle.reach_table.proofs.Reach.{grown_start, grown_turn, grown_stop, grown_end, next_some, next_fits}
+use Rattle.reach_table.proofs.Reach.{grown_start, entry_at, grown_turn, grown_stop, grown_end, next_some, next_fits}
 use native.Mathlib.Omega.{arith}
 use Rattle.reach_table.proofs.merge_at.Goals as goal
 
@@ -15,42 +14,23 @@ loop-j-init c =
 pub beside_anew-step-requires : goal.beside_anew-step-requires
 beside_anew-step-requires c =
     let e = c.loop-j.invariant.1 in
-    let h = rw (← e) at c.loop-j-test.true in
     let y = c.entry-y in
-    let next = y.ensures ∙ c.requires.2.right c.loop-j.j (omega (arith, c.loop-j.invariant.0.some)) h in
+    let (h, next) = entry_at c.args.ranks.now c.args.s.now c.requires.2 c.loop-j.invariant.0.some c.loop-j-test.true y.ensures in
     (c.requires.0, c.loop-j.invariant.0.some, next_some c.loop-j.invariant.0 y.result next h, rw e at (next_fits c.loop-j.invariant.0 y.result next h))
 
 pub returns-then-not-step : goal.returns-then-not-step
 returns-then-not-step c =
     let e = c.loop-j.invariant.1 in
-    let h = rw (← e) at c.loop-j-test.true in
     let y = c.entry-y in
-    let next = y.ensures ∙ c.requires.2.right c.loop-j.j (omega (arith, c.loop-j.invariant.0.some)) h in
+    let (h, next) = entry_at c.args.ranks.now c.args.s.now c.requires.2 c.loop-j.invariant.0.some c.loop-j-test.true y.ensures in
     let w = c.beside_anew-step in
     grown_stop c.loop-j.invariant.0 y.result next h w.ensures.less (not-true w.result.up c.if-not-step.true)
-
-pub overflow_add-j-in-loop-j : goal.overflow_add-j-in-loop-j
-overflow_add-j-in-loop-j c =
-    let e = c.loop-j.invariant.1 in
-    let h = rw (← e) at c.loop-j-test.true in
-    let y = c.entry-y in
-    let next = y.ensures ∙ c.requires.2.right c.loop-j.j (omega (arith, c.loop-j.invariant.0.some)) h in
-    omega (arith, next_fits c.loop-j.invariant.0 y.result next h)
-
-pub loop-j-smaller : goal.loop-j-smaller
-loop-j-smaller c =
-    let e = c.loop-j.invariant.1 in
-    let h = rw (← e) at c.loop-j-test.true in
-    let y = c.entry-y in
-    let next = y.ensures ∙ c.requires.2.right c.loop-j.j (omega (arith, c.loop-j.invariant.0.some)) h in
-    omega (arith, h, next_some c.loop-j.invariant.0 y.result next h)
 
 pub loop-j-preserved : goal.loop-j-preserved
 loop-j-preserved c =
     let e = c.loop-j.invariant.1 in
-    let h = rw (← e) at c.loop-j-test.true in
     let y = c.entry-y in
-    let next = y.ensures ∙ c.requires.2.right c.loop-j.j (omega (arith, c.loop-j.invariant.0.some)) h in
+    let (h, next) = entry_at c.args.ranks.now c.args.s.now c.requires.2 c.loop-j.invariant.0.some c.loop-j-test.true y.ensures in
     let w = c.beside_anew-step in
     (grown_turn c.loop-j.invariant.0 y.result next h w.ensures.less (not-false w.result.up c.if-not-step.false), e)
 

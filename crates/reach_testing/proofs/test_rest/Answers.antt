@@ -1,4 +1,4 @@
--- `reach_testing::test_rest` meets its contract: the memo begins as zeros.
+-- `reach_testing::test_rest` meets its contract: the memo begins with empty slots.
 use Rattle.ranks.specs.Ranks.{ranked}
 use Rattle.memo.proofs.Slots.{memo_start}
 use Rattle.reach_testing.proofs.test_rest.Goals as goal

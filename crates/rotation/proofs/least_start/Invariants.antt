@@ -1,13 +1,15 @@
 -- `rotation::least_start` meets its contract: the pass is at the least start or before it.
 use mathlib.Core.Path.{◌≡◌}
-use Prim.Native.Nat.{◌-◌, ◌≤◌}
+use Prim.Native.Nat.{◌≤◌}
 use lib.ListN.{length}
 use Rattle.ranks.specs.Ranks.{ranked}
 use Rattle.words.specs.Rotation.{least_rotation}
+use Rattle.words.specs.Tables.{suffix_groups}
+use Rattle.scan.proofs.Left.{Left}
 use Rattle.rotation.proofs.least_start.Given as goal
 
-abbrev pub invariant-loop-i : goal.invariant-loop-i
-invariant-loop-i l = (l.i ≤ least_rotation (ranked l.ranks l.s)) × (length (ranked l.ranks l.s) ≡ length l.s)
-
-abbrev pub decreases-loop-i : goal.decreases-loop-i
-decreases-loop-i l = length l.s - l.i
+abbrev pub invariant-loop-g : goal.invariant-loop-g
+invariant-loop-g l =
+    let s = ranked l.ranks l.s in
+    let it = l.g-iterator in
+    (left : Left s (suffix_groups (ranked it.ranks.now it.s.now) it.at)) × (left.at ≤ least_rotation s) × (length s ≡ length l.s)

@@ -3,50 +3,26 @@ use mathlib.Core.Path.{sym, ◌∙◌}
 use lib.Seq.{length-take-le}
 use Rattle.ranks.specs.Ranks.{Bytes}
 use Rattle.comparing.proofs.Decided.{compared_smaller}
-use Rattle.rotation_round.proofs.Bytes.{group_inside, word_inside, bytes_inside, bytes_differ, bytes_front}
+use Rattle.rotation_round.proofs.Bytes.{word_inside, bytes_inside, bytes_differ, bytes_front}
 use borrow.Author.Rules.{rules}
 use native.Mathlib.Omega.{arith}
 use Rattle.rotation_round.proofs.compare_round.Goals as goal
-
-pub overflow_mul-end : goal.overflow_mul-end
-overflow_mul-end c =
-    search (rules, group_inside c.args.ranks.now c.args.s.now c.requires.1)
-
-pub overflow_add-end : goal.overflow_add-end
-overflow_add-end c =
-    search (rules, group_inside c.args.ranks.now c.args.s.now c.requires.1)
-
-pub overflow_sub-rest : goal.overflow_sub-rest
-overflow_sub-rest c =
-    search (rules, group_inside c.args.ranks.now c.args.s.now c.requires.1)
 
 pub returns-then-size-rest : goal.returns-then-size-rest
 returns-then-size-rest c =
     bytes_inside c.args.ranks.now c.args.s.now c.requires.1 (search rules)
 
-pub shared_length-requires : goal.shared_length-requires
-shared_length-requires c =
-    search (rules, group_inside c.args.ranks.now c.args.s.now c.requires.1)
+pub slice_bounds-compare-end : goal.slice_bounds-compare-end
+slice_bounds-compare-end c =
+    sym (length-take-le _ c.args.s.now (omega (arith, word_inside c.args.ranks.now c.args.s.now c.requires.1)))
 
 pub returns-then-shared_length-rest : goal.returns-then-shared_length-rest
 returns-then-shared_length-rest c =
     let b : Bytes c.args.s.now = λ i l. omega (arith, c.shared_slice_known-1.given i) in
     bytes_differ c.args.ranks.now c.args.s.now c.requires.1 c.requires.0 b (search rules) (search rules)
 
-pub overflow_add-to : goal.overflow_add-to
-overflow_add-to c =
-    search (rules, word_inside c.args.ranks.now c.args.s.now c.requires.1)
-
-pub slice_bounds-compare-end : goal.slice_bounds-compare-end
-slice_bounds-compare-end c =
-    sym (length-take-le _ c.args.s.now (omega (arith, word_inside c.args.ranks.now c.args.s.now c.requires.1)))
-
-pub slice_bounds-compare-end-2 : goal.slice_bounds-compare-end-2
-slice_bounds-compare-end-2 c =
-    search (rules, word_inside c.args.ranks.now c.args.s.now c.requires.1)
-
 pub returns : goal.returns
 returns c =
     let b : Bytes c.args.s.now = λ i l. omega (arith, c.shared_slice_known-1.given i) in
-    compared_smaller c.args.ranks.now _ _ c.compare-c.ensures
+    compared_smaller c.args.ranks.now _ _ c.compare.ensures
     ∙ bytes_front c.args.ranks.now c.args.s.now c.requires.1 c.requires.0 b (search rules) (search rules)

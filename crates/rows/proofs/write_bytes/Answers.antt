@@ -1,30 +1,30 @@
--- `rows::write_bytes` meets its contract: the first k bytes stand in the buffer, and the others are left.
+-- `rows::write_bytes` meets its contract: the bytes before the one at hand stand in the buffer, and the others are left.
 use Rattle.rows.proofs.Wrote.{wrote_length}
 use Rattle.rows.proofs.Puts.{putting_none, putting_all, byte_room, byte_turn, bytes_end}
 use borrow.Author.Rules.{rules}
 use native.Mathlib.Omega.{arith}
 use Rattle.rows.proofs.write_bytes.Goals as goal
 
-pub loop-k-init : goal.loop-k-init
-loop-k-init c = (search rules, putting_none c.args.bytes.now c.args.buffer.now c.args.at (search rules))
+pub loop-byte-init : goal.loop-byte-init
+loop-byte-init c = (search rules, putting_none c.args.bytes.now c.args.buffer.now c.args.at (search rules))
 
 pub bounds-buffer-next : goal.bounds-buffer-next
 bounds-buffer-next c =
-    omega (arith, byte_room c.args.bytes.now c.loop-k.k (search rules) c.loop-k.invariant.1)
+    omega (arith, byte_room c.args.bytes.now c.loop-byte.byte-index (search rules) c.loop-byte.invariant.1)
 
 pub overflow_add-next : goal.overflow_add-next
 overflow_add-next c =
-    omega (arith, byte_room c.args.bytes.now c.loop-k.k (search rules) c.loop-k.invariant.1, wrote_length c.loop-k.invariant.1)
+    omega (arith, byte_room c.args.bytes.now c.loop-byte.byte-index (search rules) c.loop-byte.invariant.1, wrote_length c.loop-byte.invariant.1)
 
-pub loop-k-preserved : goal.loop-k-preserved
-loop-k-preserved c =
-    (search rules, byte_turn c.args.bytes.now c.loop-k.k (search rules) c.loop-k.invariant.1)
+pub loop-byte-preserved : goal.loop-byte-preserved
+loop-byte-preserved c =
+    (search rules, byte_turn c.args.bytes.now c.loop-byte.byte-index (search rules) c.loop-byte.invariant.1)
 
 pub shape_of-buffer : goal.shape_of-buffer
-shape_of-buffer c = wrote_length c.loop-k.invariant.1
+shape_of-buffer c = wrote_length c.loop-byte.invariant.1
 
 pub returns : goal.returns
 returns c =
     let a = c.args in
-    let none = bytes_end a.bytes.now c.loop-k.k (search rules) in
-    putting_all (omega arith) (rw none at c.loop-k.invariant.1)
+    let none = bytes_end a.bytes.now c.loop-byte.byte-index (search rules) in
+    putting_all (omega arith) (rw none at c.loop-byte.invariant.1)

@@ -6,11 +6,8 @@ use Rattle.words.proofs.Scan.{Scan}
 use Rattle.ranks.specs.Ranks.{ranked}
 use Rattle.scan.proofs.next_group.Given as goal
 
-abbrev pub invariant-loop-j-2 : goal.invariant-loop-j-2
-invariant-loop-j-2 l = (l.j ≤ l.stop) × Scan (ranked l.ranks l.s) l.i l.j l.p × (length (ranked l.ranks l.s) ≡ length l.s)
-
-abbrev pub decreases-loop-j-2 : goal.decreases-loop-j-2
-decreases-loop-j-2 l = l.stop - l.j
+abbrev pub invariant-loop-k : goal.invariant-loop-k
+invariant-loop-k l = Scan (ranked l.ranks l.s) l.i l.k l.p × (length (ranked l.ranks l.s) ≡ length l.s)
 
 abbrev pub invariant-loop-j : goal.invariant-loop-j
 invariant-loop-j l = (0 < l.gap) × (l.gap ≤ 64) × Scan (ranked l.ranks l.s) l.i l.j l.p × (length (ranked l.ranks l.s) ≡ length l.s)

@@ -1,57 +1,77 @@
 -- `seams::survey` meets its contract: each turn passes one group.
+use mathlib.Core.Path.{◌≡◌}
 use native.Mathlib.Omega.{arith}
 use Rattle.ranks.specs.Ranks.{ranked}
 use Rattle.ranks.proofs.Ranked.{length_ranked}
+use Rattle.words.specs.Tables.{suffix_groups}
 use Rattle.scan.proofs.Next.{group_long}
+use Rattle.scan.proofs.Left.{left_turn, left_next, left_end}
 use Rattle.cuts.proofs.Along.{group_first}
 use Rattle.longest.proofs.Seen.{measured_fits}
 use Rattle.seams.proofs.Passed.{passed_none, passed_few, passed_more, passed_all}
 use Rattle.seams.proofs.survey.Goals as goal
 
-pub loop-i-init : goal.loop-i-init
-loop-i-init c =
+pub loop-g-init : goal.loop-g-init
+loop-g-init c =
     let a = c.args in
-    (passed_none (ranked a.ranks.now a.t.now) a.end a.from a.q, length_ranked a.ranks.now a.t.now)
+    let t = ranked a.ranks.now a.t.now in
+    let it = c.into_iter-g-iterator.result in
+    let e : suffix_groups (ranked it.ranks.now it.s.now) it.at ≡ suffix_groups t 0 = cc in
+    (record { at = 0; fits = omega arith; is = e }, passed_none t a.end a.from a.q, length_ranked a.ranks.now a.t.now)
+
+pub overflow_mul-next : goal.overflow_mul-next
+overflow_mul-next c =
+    let t = left_turn c.loop-g.invariant.0 c.in-Some.ensures.steps in
+    omega (arith, t.group.fits, c.loop-g.invariant.2)
+
+pub overflow_add-next : goal.overflow_add-next
+overflow_add-next c =
+    let t = left_turn c.loop-g.invariant.0 c.in-Some.ensures.steps in
+    omega (arith, t.group.fits, c.loop-g.invariant.2)
 
 pub ends_with-ends-requires : goal.ends_with-ends-requires
 ends_with-ends-requires c =
-    let g = c.next_group-g.ensures in
-    let short = c.requires.2 in
-    let e = c.loop-i.invariant.1 in
-    (g.factor, omega (arith, g.fits, short, e), omega (arith, passed_few c.loop-i.invariant.0 g, g.fits, short, e))
+    let l = c.loop-g.invariant in
+    let t = left_turn l.0 c.in-Some.ensures.steps in
+    let g = t.group in
+    (g.factor, omega (arith, g.fits, c.requires.2, l.2), omega (arith, passed_few (rw t.place at l.1) g, g.fits, c.requires.2, l.2))
 
 pub start_with-place-requires : goal.start_with-place-requires
 start_with-place-requires c =
-    let g = c.next_group-g.ensures in
-    let short = c.requires.2 in
-    (g.factor, omega (arith, group_first g, g.fits, short, c.loop-i.invariant.1))
+    let l = c.loop-g.invariant in
+    let g = (left_turn l.0 c.in-Some.ensures.steps).group in
+    (g.factor, omega (arith, group_first g, g.fits, c.requires.2, l.2))
 
 pub counted-stored-requires : goal.counted-stored-requires
 counted-stored-requires c =
-    let g = c.next_group-g.ensures in
-    omega (arith, c.loop-i.invariant.0.since_stored.few, group_long g, g.fits, c.requires.2, c.loop-i.invariant.1)
+    let l = c.loop-g.invariant in
+    let t = left_turn l.0 c.in-Some.ensures.steps in
+    let g = t.group in
+    omega (arith, l.1.since_stored.few, t.place, group_long g, g.fits, c.requires.2, l.2)
 
 pub counted-fresh-requires : goal.counted-fresh-requires
 counted-fresh-requires c =
-    let g = c.next_group-g.ensures in
-    omega (arith, c.loop-i.invariant.0.since_start.few, group_long g, g.fits, c.requires.2, c.loop-i.invariant.1)
+    let l = c.loop-g.invariant in
+    let t = left_turn l.0 c.in-Some.ensures.steps in
+    let g = t.group in
+    omega (arith, l.1.since_start.few, t.place, group_long g, g.fits, c.requires.2, l.2)
 
 pub better-found-requires : goal.better-found-requires
 better-found-requires c =
-    let g = c.next_group-g.ensures in
-    omega (arith, measured_fits c.loop-i.invariant.0.measured g, g.fits, c.requires.2, c.loop-i.invariant.1)
+    let l = c.loop-g.invariant in
+    let t = left_turn l.0 c.in-Some.ensures.steps in
+    let g = t.group in
+    let p = rw t.place at l.1 in
+    omega (arith, measured_fits p.measured g, g.fits, c.requires.2, l.2)
 
-pub loop-i-smaller : goal.loop-i-smaller
-loop-i-smaller c =
-    let g = c.next_group-g.ensures in
-    omega (arith, group_long g, g.fits)
-
-pub loop-i-preserved : goal.loop-i-preserved
-loop-i-preserved c =
-    let g = c.next_group-g.ensures in
-    rw (c.ends_with-ends.ensures, c.start_with-place.ensures, c.counted-stored.ensures, c.counted-fresh.ensures, c.better-found.ensures, c.first_run-run.ensures)
-    (passed_more c.loop-i.invariant.0 g, c.loop-i.invariant.1)
+pub loop-g-preserved : goal.loop-g-preserved
+loop-g-preserved c =
+    let l = c.loop-g.invariant in
+    let t = left_turn l.0 c.in-Some.ensures.steps in
+    let p = passed_more (rw t.place at l.1) t.group in
+    (left_next t, rw (c.ends_with-ends.ensures, c.start_with-place.ensures, c.counted-stored.ensures, c.counted-fresh.ensures, c.better-found.ensures, c.first_run-run.ensures) p, l.2)
 
 pub returns : goal.returns
 returns c =
-    passed_all c.loop-i.invariant.0 (omega (arith, c.requires.1, c.loop-i.invariant.1)) (omega (arith, c.loop-i.invariant.1))
+    let l = c.loop-g.invariant in
+    passed_all l.1 (omega (arith, c.requires.1, l.2)) (left_end l.0 c.in-None.ensures.steps.0)

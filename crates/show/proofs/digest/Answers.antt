@@ -1,11 +1,13 @@
--- `show::digest` meets its contract: the digest of the row is that of what is left behind the digest so far, which stays below its modulus.
-use Rattle.show.proofs.Digested.{digest_one, digest_all}
-use borrow.Author.Rules.{rules}
+-- `show::digest` meets its contract: the digest so far, below its modulus, is that of the numbers of the entries before this one.
+use Rattle.std.proofs.Common.{rules}
+use Rattle.show.proofs.Digested.{digested_more}
 use Rattle.show.proofs.digest.Goals as goal
 
-pub loop-i-preserved : goal.loop-i-preserved
-loop-i-preserved c =
-    (search rules, search rules, digest_one _ c.loop-i.d c.loop-i.i c.loop-i.invariant.2 c.wide.ensures.0 (search rules))
-
-pub returns : goal.returns
-returns c = digest_all _ c.loop-i.d c.loop-i.i c.loop-i.invariant.2 (search rules)
+pub loop-entry-preserved : goal.loop-entry-preserved
+loop-entry-preserved g c =
+    let l = c.loop-entry in (
+      search rules,
+      rw c.from.ensures
+          (digested_more g.T.Into.converts c.args.row.now l.entry-index l.d c.entry-item.result c.into-number.result c.loop-entry-test.true c.entry-item.is
+          c.into-number.ensures l.invariant.1),
+    )

@@ -1,33 +1,12 @@
--- `suffix_chain::count_suffix` meets its contract: the groups counted and those that stand from the place on are all.
-use mathlib.Core.Path.{ap}
-use lib.ListN.{length}
+-- `suffix_chain::count_suffix` meets its contract: there are no more groups than symbols.
+use mathlib.Core.Logic.{inl}
+use native.Mathlib.Omega.{arith}
 use Rattle.ranks.specs.Ranks.{ranked}
 use Rattle.ranks.proofs.Ranked.{length_ranked}
-use Rattle.scan.proofs.Next.{suffix_end}
-use Rattle.scan.proofs.Pass.{count_turn, stretches}
-use borrow.Author.Rules.{rules}
-use native.Mathlib.Omega.{arith}
+use Rattle.scan.proofs.Next.{suffix_few}
 use Rattle.suffix_chain.proofs.count_suffix.Goals as goal
 
-pub loop-place-init : goal.loop-place-init
-loop-place-init c =
-    (search rules, search rules, length_ranked c.args.ranks.now c.args.s.now)
-
-pub overflow_add-place : goal.overflow_add-place
-overflow_add-place c =
-    let g = c.group_at-g.ensures in
-    omega (arith, stretches g.factor g.some)
-
-pub loop-place-smaller : goal.loop-place-smaller
-loop-place-smaller c =
-    let g = c.group_at-g.ensures in
-    omega (arith, stretches g.factor g.some)
-
-pub loop-place-preserved : goal.loop-place-preserved
-loop-place-preserved c =
-    let g = c.group_at-g.ensures in
-    (omega (arith, stretches g.factor g.some), count_turn g c.loop-place.count _ c.loop-place.invariant.1, c.loop-place.invariant.2)
-
-pub returns : goal.returns
-returns c =
-    omega (arith, ap length (suffix_end (ranked c.args.ranks.now c.args.s.now) c.loop-place.place (search rules)))
+pub count-requires-clause-fits : goal.count-requires-clause-fits
+count-requires-clause-fits c =
+    let it = c.groups_along.result in
+    inl (omega (arith, suffix_few (ranked it.ranks.now it.s.now) it.at, length_ranked it.ranks.now it.s.now))

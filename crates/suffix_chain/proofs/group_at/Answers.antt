@@ -1,4 +1,4 @@
--- `suffix_chain::group_at_lem` meets its contract: the loop counts equal factors forward, and where it stops the group is read off.
+-- `suffix_chain::group_at` meets its contract: the loop counts equal factors forward, and where it stops the group is read off.
 use mathlib.Core.Path.{◌∙◌}
 use lib.ListN.{get_or}
 use Rattle.ranks.specs.Ranks.{Bytes, ranked}
@@ -12,14 +12,6 @@ pub bounds-table-i : goal.bounds-table-i
 bounds-table-i c =
     omega (arith, array_room c.args.ranks.now c.args.s.now c.args.table.now c.requires.2)
 
-pub overflow_cast-length : goal.overflow_cast-length
-overflow_cast-length c =
-    omega (arith, c.shared_slice_known-4-1.given c.args.i)
-
-pub overflow_add-end : goal.overflow_add-end
-overflow_add-end c =
-    omega (arith, array_fits c.args.ranks.now c.args.s.now c.args.table.now c.requires.2 c.args.i c.requires.1)
-
 pub loop-j-init : goal.loop-j-init
 loop-j-init c =
     let e = array_entry c.args.ranks.now c.args.s.now c.args.table.now c.requires.2 c.args.i c.requires.1 in
@@ -29,9 +21,6 @@ loop-j-init c =
 pub bounds-table-j : goal.bounds-table-j
 bounds-table-j c =
     omega (arith, array_room c.args.ranks.now c.args.s.now c.args.table.now c.requires.2)
-
-pub overflow_cast-table : goal.overflow_cast-table
-overflow_cast-table c = omega (arith, c.shared_slice_known-in-loop-j-1.given c.loop-j.j)
 
 pub returns-then-table-j : goal.returns-then-table-j
 returns-then-table-j c =
@@ -45,14 +34,14 @@ slice_bounds-agree-end-in-loop-j c =
 pub returns-then-not-agree : goal.returns-then-not-agree
 returns-then-not-agree c =
     let e = array_entry c.args.ranks.now c.args.s.now c.args.table.now c.requires.2 c.loop-j.j (search rules) in
-    let b : Bytes c.args.s.now = λ k h. omega (arith, c.shared_slice_known-1.given k) in
+    let b : Bytes c.args.s.now = λ k h. omega (arith, c.type_inv.s k) in
     let parts = same_words c.requires.0 c.args.s.now b c.args.i c.loop-j.j (get_or c.args.table.now c.args.i 0) in
     stop_word c.loop-j.invariant.0 (search rules) e (search rules) (c.agree.ensures ∙ parts) c.if-not-agree.true
 
 pub loop-j-preserved : goal.loop-j-preserved
 loop-j-preserved c =
     let e = array_entry c.args.ranks.now c.args.s.now c.args.table.now c.requires.2 c.loop-j.j (search rules) in
-    let b : Bytes c.args.s.now = λ k h. omega (arith, c.shared_slice_known-1.given k) in
+    let b : Bytes c.args.s.now = λ k h. omega (arith, c.type_inv.s k) in
     let parts = same_words c.requires.0 c.args.s.now b c.args.i c.loop-j.j (get_or c.args.table.now c.args.i 0) in
     (equal_turn c.loop-j.invariant.0 (search rules) e (search rules) (c.agree.ensures ∙ parts) c.if-not-agree.false, c.loop-j.invariant.1)
 

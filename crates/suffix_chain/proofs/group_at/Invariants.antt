@@ -1,4 +1,4 @@
--- `suffix_chain::group_at_lem` meets its contract: the loop counts equal factors forward, and where it stops the group is read off.
+-- `suffix_chain::group_at` meets its contract: the loop counts equal factors forward, and where it stops the group is read off.
 use mathlib.Core.Path.{◌≡◌}
 use Prim.Native.Nat.{◌-◌}
 use lib.ListN.{length as size}

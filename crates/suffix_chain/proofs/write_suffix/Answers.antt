@@ -1,75 +1,50 @@
--- `suffix_chain::write_suffix` meets its contract: the numbers of the groups that stand before i are written, and those of the others are left.
-use lib.ListN.{length-set}
+-- `suffix_chain::write_suffix` meets its contract: what is still to be written are the numbers of the groups that are left, three of each.
+use mathlib.Core.Path.{◌≡◌}
+use Prim.Native.Nat.{◌≤◌}
+use lib.ListN.{length}
 use Rattle.ranks.specs.Ranks.{ranked}
 use Rattle.ranks.proofs.Ranked.{length_ranked}
-use Rattle.rows.proofs.Wrote.{wrote_length}
-use Rattle.scan.proofs.Pass.{write_turn, stretches}
-use Rattle.suffix_chain.proofs.Turn.{write_start, write_room, write_end}
-use borrow.Author.Rules.{rules}
+use Rattle.words.specs.Factors.{group_numbers}
+use Rattle.words.specs.Tables.{suffix_groups}
+use Rattle.rows.proofs.Wrote.{wrote_none, wrote_all, wrote_length}
+use Rattle.scan.proofs.Left.{left_from, left_turn, left_next}
+use Rattle.scan.proofs.Pass.{write_turn, length_numbers, length_fits, power_fits, group_room}
 use native.Mathlib.Omega.{arith}
 use Rattle.suffix_chain.proofs.write_suffix.Goals as goal
 
-pub loop-i-init : goal.loop-i-init
-loop-i-init c =
-    let o = c.args.ranks.now in
-    (write_start (ranked o c.args.s.now) c.args.row.now c.args.start (search rules), length_ranked o c.args.s.now)
+pub loop-g-init : goal.loop-g-init
+loop-g-init c =
+    let a = c.args in
+    let s = ranked a.ranks.now a.s.now in
+    let gs = suffix_groups s a.start in
+    let it = c.into_iter-g-iterator.result in
+    let q : ranked it.ranks.now it.s.now ≡ s = cc in
+    let e : suffix_groups (ranked it.ranks.now it.s.now) it.at ≡ gs = cc in
+    let n : length (ranked it.ranks.now it.s.now) ≡ length it.s.now = length_ranked it.ranks.now it.s.now in
+    let w : it.at ≤ length s = omega (arith, it.within, rw q at n) in (
+      rw q (left_from s it.at w),
+      rw e (wrote_none (group_numbers gs) a.row.now (omega (arith, length_numbers gs))),
+      length_ranked a.ranks.now a.s.now,
+    )
 
-pub offset_bounds-row-at : goal.offset_bounds-row-at
-offset_bounds-row-at c = omega (arith, write_room c.group_at-g.ensures c.loop-i.invariant.0)
-
-pub bounds-row-at : goal.bounds-row-at
-bounds-row-at c = omega (arith, write_room c.group_at-g.ensures c.loop-i.invariant.0)
-
-pub overflow_cast-row-in-loop-i : goal.overflow_cast-row-in-loop-i
-overflow_cast-row-in-loop-i c =
-    let g = c.group_at-g.ensures in
-    omega (arith, stretches g.factor g.some)
-
-pub overflow_add-row : goal.overflow_add-row
-overflow_add-row c =
-    omega (arith, write_room c.group_at-g.ensures c.loop-i.invariant.0, c.well_formed.1.1.1.1.0)
-
-pub offset_bounds-row-at-in-loop-i : goal.offset_bounds-row-at-in-loop-i
-offset_bounds-row-at-in-loop-i c =
-    omega (arith, write_room c.group_at-g.ensures c.loop-i.invariant.0, c.well_formed.1.1.1.1.0)
-
-pub bounds-row-at-in-loop-i : goal.bounds-row-at-in-loop-i
-bounds-row-at-in-loop-i c =
-    simp length-set (omega (arith, write_room c.group_at-g.ensures c.loop-i.invariant.0))
-
-pub overflow_cast-row-in-loop-i-2 : goal.overflow_cast-row-in-loop-i-2
-overflow_cast-row-in-loop-i-2 c =
-    let g = c.group_at-g.ensures in
-    omega (arith, stretches g.factor g.some)
-
-pub overflow_add-row-in-loop-i : goal.overflow_add-row-in-loop-i
-overflow_add-row-in-loop-i c =
-    omega (arith, write_room c.group_at-g.ensures c.loop-i.invariant.0, c.well_formed.1.1.1.1.0)
-
-pub offset_bounds-row-at-in-loop-i-2 : goal.offset_bounds-row-at-in-loop-i-2
-offset_bounds-row-at-in-loop-i-2 c =
-    omega (arith, write_room c.group_at-g.ensures c.loop-i.invariant.0, c.well_formed.1.1.1.1.0)
-
-pub bounds-row-at-in-loop-i-2 : goal.bounds-row-at-in-loop-i-2
-bounds-row-at-in-loop-i-2 c =
-    simp length-set (omega (arith, write_room c.group_at-g.ensures c.loop-i.invariant.0))
+pub write_group-requires : goal.write_group-requires
+write_group-requires c =
+    let l = c.loop-g.invariant in
+    let t = left_turn l.0 c.in-Some.ensures.steps in
+    let g = t.group in
+    (group_room g (rw t.before at l.1), omega (arith, g.fits), omega (arith, g.fits, length_fits g), omega (arith, g.fits, power_fits g))
 
 pub overflow_add-at : goal.overflow_add-at
 overflow_add-at c =
-    omega (arith, write_room c.group_at-g.ensures c.loop-i.invariant.0, c.well_formed.1.1.1.1.0)
+    let l = c.loop-g.invariant in
+    let t = left_turn l.0 c.in-Some.ensures.steps in
+    omega (arith, group_room t.group (rw t.before at l.1), wrote_length l.1)
 
-pub loop-i-smaller : goal.loop-i-smaller
-loop-i-smaller c =
-    let g = c.group_at-g.ensures in
-    omega (arith, stretches g.factor g.some)
-
-pub loop-i-preserved : goal.loop-i-preserved
-loop-i-preserved c =
-    (write_turn c.group_at-g.ensures c.loop-i.invariant.0, c.loop-i.invariant.1)
-
-pub shape_of-row : goal.shape_of-row
-shape_of-row c = wrote_length c.loop-i.invariant.0
+pub loop-g-preserved : goal.loop-g-preserved
+loop-g-preserved c =
+    let l = c.loop-g.invariant in
+    let t = left_turn l.0 c.in-Some.ensures.steps in
+    (left_next t, rw (c.write_group.ensures, t.after) (write_turn t.group (rw t.before at l.1)), l.2)
 
 pub returns : goal.returns
-returns c =
-    write_end (ranked c.args.ranks.now c.args.s.now) c.loop-i.i (search rules) c.loop-i.invariant.0
+returns c = wrote_all (rw c.in-None.ensures.steps.0 at c.loop-g.invariant.1)

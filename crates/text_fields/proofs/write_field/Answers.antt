@@ -5,21 +5,6 @@ use Rattle.rows.proofs.Puts.{puts_byte}
 use native.Mathlib.Omega.{arith}
 use Rattle.text_fields.proofs.write_field.Goals as goal
 
-pub write_decimal-end-requires : goal.write_decimal-end-requires
-write_decimal-end-requires c =
-    let a = c.args in
-    omega (arith, length_field a.n, length_decimal a.n)
-
-pub bounds-buffer-end : goal.bounds-buffer-end
-bounds-buffer-end c =
-    let a = c.args in
-    omega (arith, length_field a.n, length_decimal a.n)
-
-pub overflow_add-result : goal.overflow_add-result
-overflow_add-result c =
-    let a = c.args in
-    omega (arith, length_field a.n, length_decimal a.n)
-
 pub returns : goal.returns
 returns c =
     let a = c.args in

@@ -5,8 +5,7 @@ use native.Mathlib.Omega.{arith}
 use Rattle.ranks.specs.Ranks.{ranked}
 use Rattle.ranks.proofs.Ranked.{length_ranked}
 use Rattle.words.specs.Tables.{suffix_groups}
-use Rattle.scan.proofs.Next.{suffix_end, group_long}
-use Rattle.scan.proofs.Pass.{length_fits, from_fits}
+use Rattle.scan.proofs.Next.{suffix_end}
 use Rattle.text.specs.Listing.{lines}
 use Rattle.text_lines.proofs.Most.{suffix_most}
 use Rattle.text_lines.proofs.Lines.{measure_turn}
@@ -17,37 +16,6 @@ pub loop-i-init : goal.loop-i-init
 loop-i-init c =
     let a = c.args in
     (search rules, c.group_from-g.ensures, omega arith, length_ranked a.ranks.now a.s.now)
-
-pub overflow_add-end : goal.overflow_add-end
-overflow_add-end c =
-    let g = c.loop-i.invariant.1.group (search rules) in
-    omega (arith, length_fits g, g.fits)
-
-pub overflow_mul-place : goal.overflow_mul-place
-overflow_mul-place c =
-    let g = c.loop-i.invariant.1.group (search rules) in
-    omega (arith, g.fits)
-
-pub overflow_add-place : goal.overflow_add-place
-overflow_add-place c =
-    let g = c.loop-i.invariant.1.group (search rules) in
-    omega (arith, g.fits)
-
-pub shared_length-shared-requires : goal.shared_length-shared-requires
-shared_length-shared-requires c =
-    let g = c.loop-i.invariant.1.group (search rules) in
-    (omega (arith, length_fits g, g.fits), omega (arith, from_fits c.group_from-h.ensures g.fits))
-
-pub slice_bounds-line_length-count : goal.slice_bounds-line_length-count
-slice_bounds-line_length-count c = omega arith
-
-pub slice_bounds-line_length-start : goal.slice_bounds-line_length-start
-slice_bounds-line_length-start c = omega arith
-
-pub slice_bounds-line_length-end : goal.slice_bounds-line_length-end
-slice_bounds-line_length-end c =
-    let g = c.loop-i.invariant.1.group (search rules) in
-    omega (arith, length_fits g, g.fits)
 
 pub line_length-total-requires : goal.line_length-total-requires
 line_length-total-requires c =
@@ -64,11 +32,6 @@ overflow_add-total c =
     let all = length (lines a.s.now (suffix_groups (ranked a.ranks.now a.s.now) a.from)) in
     let n = measure_turn a.s.now c.loop-i.invariant.3 g c.group_from-h.ensures c.shared_length-shared.ensures c.loop-i.total all c.loop-i.invariant.2 in
     omega (arith, suffix_most a.ranks.now a.s.now a.from (search rules) (search rules))
-
-pub loop-i-smaller : goal.loop-i-smaller
-loop-i-smaller c =
-    let g = c.loop-i.invariant.1.group (search rules) in
-    omega (arith, group_long g)
 
 pub loop-i-preserved : goal.loop-i-preserved
 loop-i-preserved c =

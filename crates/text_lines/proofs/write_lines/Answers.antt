@@ -4,10 +4,8 @@ use native.Mathlib.Omega.{arith}
 use Rattle.ranks.specs.Ranks.{ranked}
 use Rattle.ranks.proofs.Ranked.{length_ranked}
 use Rattle.words.specs.Tables.{suffix_groups}
-use Rattle.rows.proofs.Wrote.{wrote_length}
 use Rattle.rows.proofs.Puts.{putting_none, putting_all}
-use Rattle.scan.proofs.Next.{suffix_end, group_long}
-use Rattle.scan.proofs.Pass.{length_fits, from_fits}
+use Rattle.scan.proofs.Next.{suffix_end}
 use Rattle.text.specs.Listing.{lines}
 use Rattle.text_lines.proofs.Lines.{line_room, line_turn}
 use borrow.Author.Rules.{rules}
@@ -22,46 +20,10 @@ loop-start-init c =
       length_ranked a.ranks.now a.s.now,
     )
 
-pub overflow_add-end : goal.overflow_add-end
-overflow_add-end c =
-    let g = c.loop-start.invariant.1.group (search rules) in
-    omega (arith, length_fits g, g.fits)
-
-pub overflow_mul-place : goal.overflow_mul-place
-overflow_mul-place c =
-    let g = c.loop-start.invariant.1.group (search rules) in
-    omega (arith, g.fits)
-
-pub overflow_add-place : goal.overflow_add-place
-overflow_add-place c =
-    let g = c.loop-start.invariant.1.group (search rules) in
-    omega (arith, g.fits)
-
-pub shared_length-shared-requires : goal.shared_length-shared-requires
-shared_length-shared-requires c =
-    let g = c.loop-start.invariant.1.group (search rules) in
-    (omega (arith, length_fits g, g.fits), omega (arith, from_fits c.group_from-h.ensures g.fits))
-
-pub slice_bounds-write_line-count : goal.slice_bounds-write_line-count
-slice_bounds-write_line-count c = omega arith
-
-pub slice_bounds-write_line-start : goal.slice_bounds-write_line-start
-slice_bounds-write_line-start c = omega arith
-
-pub slice_bounds-write_line-end : goal.slice_bounds-write_line-end
-slice_bounds-write_line-end c =
-    let g = c.loop-start.invariant.1.group (search rules) in
-    omega (arith, length_fits g, g.fits)
-
 pub write_line-next-requires : goal.write_line-next-requires
 write_line-next-requires c =
     let g = c.loop-start.invariant.1.group (search rules) in
     line_room c.args.s.now c.loop-start.invariant.3 g c.group_from-h.ensures c.shared_length-shared.ensures c.loop-start.invariant.2
-
-pub loop-start-smaller : goal.loop-start-smaller
-loop-start-smaller c =
-    let g = c.loop-start.invariant.1.group (search rules) in
-    omega (arith, group_long g)
 
 pub loop-start-preserved : goal.loop-start-preserved
 loop-start-preserved c =
@@ -72,9 +34,6 @@ loop-start-preserved c =
       line_turn c.args.s.now c.loop-start.invariant.3 g next c.shared_length-shared.ensures c.loop-start.invariant.2 c.write_line-next.ensures,
       c.loop-start.invariant.3,
     )
-
-pub shape_of-buffer : goal.shape_of-buffer
-shape_of-buffer c = wrote_length c.loop-start.invariant.2
 
 pub returns : goal.returns
 returns c =

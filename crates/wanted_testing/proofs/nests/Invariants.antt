@@ -1,6 +1,5 @@
 -- `wanted_testing::nests` meets its contract: the stretches from `start` on nest; those behind it that start before `next` end there or before.
 use Prim.Native.Nat.{◌-◌, ◌≤◌}
-use lib.ListN.{length}
 use Rattle.wanted_testing.proofs.Tested.{NestsFrom, Passed}
 use Rattle.wanted_testing.proofs.nests.Given as goal
 
@@ -11,7 +10,4 @@ abbrev pub decreases-loop-next : goal.decreases-loop-next
 decreases-loop-next l = l.end - l.next
 
 abbrev pub invariant-loop-start : goal.invariant-loop-start
-invariant-loop-start l = (l.start ≤ length l.table) × NestsFrom l.table l.start
-
-abbrev pub decreases-loop-start : goal.decreases-loop-start
-decreases-loop-start l = l.start
+invariant-loop-start l = NestsFrom l.table l.start
