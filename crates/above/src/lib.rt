@@ -3,9 +3,10 @@
 #![tactic(auto)]
 
 ghost use Rattle.std.specs.Prelude.{true, ◌≡◌, ◌≤◌, ◌+◌, length};
-ghost use Rattle.ranks.specs.Inner.{Ranks};
 ghost use Rattle.ranks.specs.Ranks.{rank, ranked};
 ghost use Rattle.above.specs.Above.{Above, AboveEnd, AboveBlock};
+
+use symbols::Ranking;
 
 // Whether the sixteen bytes from j are all above c, in byte order.
 fn above_bytes(s: &[u8], j: usize, c: u8) -> bool
@@ -49,22 +50,22 @@ pub fn ranks_above(s: &[u8], ranks: &[u8], j: usize, c: u8) -> usize
 
 // Where blocks of bytes above c may end that begin at j: in another order, where each byte is looked up, they do; in byte order the end of the
 // string, and `above_block` tells of each.
-pub fn above_end(s: &[u8], ranks: &[u8], j: usize, c: u8) -> usize
-    requires { Ranks ranks.now × (j ≤ length s.now) }
-    ensures { AboveEnd ranks.now s.now c j result }
+pub fn above_end(s: &[u8], ranks: Ranking, j: usize, c: u8) -> usize
+    requires { j ≤ length s.now }
+    ensures { AboveEnd ranks.entry.list.now s.now c j result }
 {
-    if ranks.len() == 0 {
+    if ranks.list.len() == 0 {
         return s.len();
     }
-    ranks_above(s, ranks, j, c)
+    ranks_above(s, ranks.list, j, c)
 }
 
 // Whether the sixteen bytes from j are all above c, in byte order; in another order `above_end` has told it.
-pub fn above_block(s: &[u8], ranks: &[u8], j: usize, c: u8) -> bool
-    requires { Ranks ranks.now × (j + 16 ≤ length s.now) }
-    ensures { AboveBlock ranks.now s.now c j result }
+pub fn above_block(s: &[u8], ranks: Ranking, j: usize, c: u8) -> bool
+    requires { j + 16 ≤ length s.now }
+    ensures { AboveBlock ranks.entry.list.now s.now c j result }
 {
-    if 0 < ranks.len() {
+    if 0 < ranks.list.len() {
         return true;
     }
     above_bytes(s, j, c)

@@ -3,13 +3,12 @@ use mathlib.Core.List.{List, [], ◌∷◌, ◌++◌}
 use mathlib.Core.Path.{◌≡◌, refl, sym, ap, ◌∙◌}
 use Prim.Native.Nat.{ℕ, suc, ◌+◌, ◌≤◌, ◌<◌}
 use native.Mathlib.Omega.{arith}
-use lib.ListN.{length, set, length-append}
+use lib.ListN.{length, length-append}
 use Rattle.decimal.specs.Decimal.{codes, decimal}
 use Rattle.decimal.proofs.Decimal.{length_decimal, count_least}
-use Rattle.rows.specs.Row.{written_at}
-use Rattle.rows.specs.Written.{Puts}
-use Rattle.rows.proofs.Written.{written_two}
-use Rattle.rows.proofs.Puts.{puts_then}
+use Rattle.rows.specs.Written.{Fits, Writes}
+use Rattle.rows.specs.declared.Writer.{Writer}
+use Rattle.rows.proofs.Writing.{writes_then}
 use Rattle.refusals.proofs.First.{First, none, holds, passes, too_long, not_long, first_is}
 use Rattle.refusals.specs.Refusals.{first_of, unless_refused, max_pattern}
 use Rattle.block_parts.specs.Block.{Block, bytes_place, bytes_count, block_bytes, block_of}
@@ -80,19 +79,16 @@ module _ (s : List ℕ) (h : length s ≤ max_pattern) where
         length-append (mark ++ digits) s,
       )
 
-  -- the hash mark and the digit after it
-  mark_put : (d : List ℕ) {n : ℕ} → 2 ≤ length d → n ≡ length digits → Puts (codes "#" ++ decimal (length digits)) 0 d (set (set d 0 35) 1 (48 + n)) 2
-  mark_put d {n} k e =
-      let two : codes "#" ++ decimal (length digits) ≡ 35 ∷ (48 + n) ∷ [] = rw (decimal_one (length digits) (omega (arith, few_digits)), e) refl in
-      record { next = omega (arith, ap length two); leaves = written_two d 0 35 (48 + n) (omega arith) ∙ ap (λ u. written_at 0 u d) (sym two) }
-
-  pub block_put : (d : List ℕ) {n : ℕ} {b₁ b₂ : List ℕ} {n₁ n₂ : ℕ} → length (block_of s) ≤ length d → n ≡ length digits
-      → Puts digits 2 (set (set d 0 35) 1 (48 + n)) b₁ n₁ → Puts s n₁ b₁ b₂ n₂ → Puts (block_of s) 0 d b₂ n₂
+  -- the hash mark, the digit after it, the count and the pattern, one behind the other
+  pub block_put : {n : ℕ} {w w₁ w₂ w₃ w₄ : Writer} → Fits (block_of s) w → n ≡ length digits → Writes (35 ∷ []) w w₁ → Writes ((48 + n) ∷ []) w₁ w₂
+      → Writes digits w₂ w₃ → Writes s w₃ w₄ → Writes (block_of s) w w₄
   unfolding block_of
-  block_put d k e p q =
+  block_put {n} {w} {w₁} {w₂} room e p₁ p₂ p₃ p₄ =
       let mark = codes "#" ++ decimal (length digits) in
+      let two : mark ≡ 35 ∷ (48 + n) ∷ [] = rw (decimal_one (length digits) (omega (arith, few_digits)), e) refl in
       let m₂ = length-append (codes "#") (decimal (length digits)) in
       let m₃ = length-append mark digits in
-      let m = length_block in
+      let m₄ = length-append (mark ++ digits) s in
       let one = one_digit in
-      puts_then (puts_then (mark_put d (omega arith) e) p (omega arith)) q (omega arith)
+      let first : Writes mark w w₂ = rw two (writes_then p₁ p₂ (omega (arith, room))) in
+      writes_then (writes_then first p₃ (omega (arith, room))) p₄ (omega (arith, room))

@@ -8,7 +8,7 @@ ghost use Rattle.block.specs.Calls.{BlockRead, BlockWritten, extent_of};
 use block_place::{Span, locate};
 use decimal::{digit_count, write_decimal};
 use refusals::{MAX_PATTERN, Refusal};
-use rows::write_bytes;
+use rows::Writer;
 
 // The place and count of the bytes within a definite length block. Refusals 9, 1.
 pub fn read_block(bytes: &[u8]) -> Result<Span, Refusal>
@@ -35,8 +35,13 @@ pub fn write_block(pattern: &[u8], bytes: &mut [u8]) -> Result<usize, Refusal>
     if bytes.len() < 2 + digits + size {
         return Err(Refusal::RowTooShort);
     }
-    bytes[0] = b'#';
-    bytes[1] = b'0' + digits as u8;
-    let place = write_decimal(size, bytes, 2);
-    Ok(write_bytes(pattern, bytes, place))
+    let mut out = Writer {
+        buffer: bytes,
+        at: 0,
+    };
+    out.byte(b'#');
+    out.byte(b'0' + digits as u8);
+    write_decimal(size, &mut out);
+    out.bytes(pattern);
+    Ok(out.at)
 }

@@ -5,12 +5,11 @@
 ghost use Rattle.std.specs.Prelude.{◌≡◌, ◌≤◌, ◌+◌, length, take, drop};
 ghost use Rattle.words.specs.Order.{same, shared};
 ghost use Rattle.agreeing.specs.Agrees.{Agrees, Begun, Agreed};
-ghost use Rattle.ranks.specs.Inner.{Ranks};
 ghost use Rattle.comparing.specs.Compared.{compared, smaller_of, SharedTold};
 
 use agreeing::agree_blocks;
 use std::cmp::Ordering;
-use symbols::rank_of;
+use symbols::Ranking;
 
 // How many of the first `len` bytes from i of a and from j of b agree, byte by byte; the first `from` do.
 pub fn agree_bytes(a: &[u8], i: usize, b: &[u8], j: usize, from: usize, len: usize) -> usize
@@ -66,14 +65,13 @@ fn shared_bytes(a: &[u8], b: &[u8]) -> usize
 }
 
 // Compares two strings: the ranks of the first bytes that differ decide, or the lengths.
-pub fn compare(a: &[u8], b: &[u8], ranks: &[u8]) -> Compared
-    requires { Ranks ranks.now }
-    ensures { result ≡ compared ranks.now a.now b.now }
+pub fn compare(a: &[u8], b: &[u8], ranks: Ranking) -> Compared
+    ensures { result ≡ compared ranks.entry.list.now a.now b.now }
 {
     let k = shared_bytes(a, b);
     if k < a.len().min(b.len()) {
-        let x = rank_of(ranks, a[k]);
-        let y = rank_of(ranks, b[k]);
+        let x = ranks.rank_of(a[k]);
+        let y = ranks.rank_of(b[k]);
         return Compared {
             shared: k,
             ordering: x.cmp(&y),

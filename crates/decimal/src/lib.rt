@@ -3,9 +3,11 @@
 #![tactic(auto)]
 
 ghost use Rattle.std.specs.Prelude.{◌≡◌, ◌≤◌, length};
-ghost use Rattle.rows.specs.Written.{Room, Puts};
+ghost use Rattle.rows.specs.Written.{Fits, Writes};
 ghost use Rattle.decimal.specs.Decimal.{decimal, read, Digits};
 ghost use Rattle.decimal.specs.Leading.{Leading};
+
+use rows::Writer;
 
 // How many digits a number has in decimal.
 pub fn digit_count(n: usize) -> usize
@@ -22,17 +24,17 @@ pub fn digit_count(n: usize) -> usize
 }
 
 // Writes a number in decimal, the last digit first.
-pub fn write_decimal(n: usize, buffer: &mut [u8], at: usize) -> usize
-    requires { Room (decimal n) at buffer.old }
-    ensures { Puts (decimal n) at buffer.old buffer.new result }
+pub fn write_decimal(n: usize, out: &mut Writer)
+    requires { Fits (decimal n) out.old }
+    ensures { Writes (decimal n) out.old out.new }
 {
-    let end = at + digit_count(n);
+    let end = out.at + digit_count(n);
     let mut rest = n;
-    for i in (at..end).rev() {
-        buffer[i] = b'0' + (rest % 10) as u8;
+    for i in (out.at..end).rev() {
+        out.buffer[i] = b'0' + (rest % 10) as u8;
         rest /= 10;
     }
-    end
+    out.at = end;
 }
 
 // How many digits a text starts with.

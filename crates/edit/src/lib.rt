@@ -3,7 +3,6 @@
 #![tactic(auto)]
 
 ghost use Rattle.std.specs.Prelude.{◌*◌, ◌≤◌, min, length};
-ghost use Rattle.ranks.specs.Inner.{Ranks};
 ghost use Rattle.ranks.specs.Ranks.{ranked};
 ghost use Rattle.seams.specs.Seams.{Accepted};
 ghost use Rattle.edit.specs.Core.{answer_told, room_refusals};
@@ -13,6 +12,7 @@ use edit_rows::write_rows;
 use refusals::{MAX_BLOCK, Refusal};
 use seams::plan;
 use splicing::Edit;
+use symbols::Ranking;
 
 // The most middle groups of an accepted edit: the binary digits of MAX_PATTERN, the longest block, and one.
 pub const MAX_MIDDLE: usize = 15 + MAX_BLOCK + 1;
@@ -30,15 +30,15 @@ pub struct Counts {
 // Measures the result, tests refusal 8 for both rows, and writes them; for `edit_core`.
 pub fn fill(
     edit: Edit,
-    ranks: &[u8],
+    ranks: Ranking,
     table: &[u16],
     t: &[u8],
     room: usize,
     numbers: &mut [u16],
     starts: &mut [u16],
 ) -> Result<Counts, Refusal>
-    requires { Ranks ranks.now × Accepted (ranked ranks.now edit.pattern.now) table.now edit.from edit.to (ranked ranks.now edit.block.now) (ranked ranks.now t.now) × (3 * min room max_middle ≤ length numbers.old) }
-    ensures { FillsNumbers (room_refusals (ranked ranks.now edit.entry.pattern.now) edit.entry.from edit.entry.to (ranked ranks.now edit.entry.block.now) room (length starts.old)) (ranked ranks.now edit.entry.pattern.now) edit.entry.from edit.entry.to (ranked ranks.now edit.entry.block.now) numbers.old numbers.new starts.old starts.new (answer_told result) }
+    requires { Accepted (ranked ranks.list.now edit.pattern.now) table.now edit.from edit.to (ranked ranks.list.now edit.block.now) (ranked ranks.list.now t.now) × (3 * min room max_middle ≤ length numbers.old) }
+    ensures { FillsNumbers (room_refusals (ranked ranks.entry.list.now edit.entry.pattern.now) edit.entry.from edit.entry.to (ranked ranks.entry.list.now edit.entry.block.now) room (length starts.old)) (ranked ranks.entry.list.now edit.entry.pattern.now) edit.entry.from edit.entry.to (ranked ranks.entry.list.now edit.entry.block.now) numbers.old numbers.new starts.old starts.new (answer_told result) }
 {
     let p = plan(edit, ranks, table, t);
     let found = p.found;

@@ -2,7 +2,6 @@
 #![tactic(auto)]
 
 ghost use Rattle.std.specs.Prelude.{◌≡◌};
-ghost use Rattle.ranks.specs.Inner.{Ranks};
 ghost use Rattle.ranks.specs.Ranks.{ranked};
 ghost use Rattle.refusals.specs.Answers.{refusal_of};
 ghost use Rattle.refusals.specs.Refusals.{first_of, edit_refusals};
@@ -11,12 +10,12 @@ use prefix_testing::is_last_factors;
 use reach_testing::is_lyndon_array;
 use refusals::{MAX_BLOCK, MAX_PATTERN, Refusal};
 use splicing::Edit;
+use symbols::Ranking;
 
 // The first of the refusals 1 to 5 that holds, if one does.
 #[tactic(auto, using(crate::proofs::Refused::ways_through))]
-pub fn refusal(edit: Edit, ranks: &[u8], array: &[u16], last: &[u16]) -> Result<(), Refusal>
-    requires { Ranks ranks.now }
-    ensures { refusal_of result ≡ first_of (edit_refusals (ranked ranks.now edit.entry.pattern.now) array.now last.now edit.entry.from edit.entry.to (ranked ranks.now edit.entry.block.now)) }
+pub fn refusal(edit: Edit, ranks: Ranking, array: &[u16], last: &[u16]) -> Result<(), Refusal>
+    ensures { refusal_of result ≡ first_of (edit_refusals (ranked ranks.entry.list.now edit.entry.pattern.now) array.now last.now edit.entry.from edit.entry.to (ranked ranks.entry.list.now edit.entry.block.now)) }
 {
     let n = edit.pattern.len();
     if MAX_PATTERN < n {

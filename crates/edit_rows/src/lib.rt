@@ -3,7 +3,6 @@
 #![tactic(auto)]
 
 ghost use Rattle.std.specs.Prelude.{◌≡◌, ◌+◌, ◌*◌, ◌≤◌, length, take};
-ghost use Rattle.ranks.specs.Inner.{Ranks};
 ghost use Rattle.ranks.specs.Ranks.{ranked};
 ghost use Rattle.rows.specs.Row.{written};
 ghost use Rattle.words.specs.Factors.{group_numbers};
@@ -15,20 +14,21 @@ use factoring::{fill_groups, write_group};
 use longest::Longest;
 use longest_writing::{write_run, write_starts};
 use scan::groups;
+use symbols::Ranking;
 
 // Writes the middle groups of t, which ends where the middle does, and the starts of those of its factors that have the length `size`, from place
 // `at` of their row on; answers the place after them.
 fn write_middle(
     t: &[u8],
-    ranks: &[u8],
+    ranks: Ranking,
     end: usize,
     size: usize,
     numbers: &mut [u16],
     starts: &mut [u16],
     at: usize,
 ) -> usize
-    requires { Ranks ranks.now × (length t.now ≤ 65535) × (end ≤ length t.now) × (3 * length (suffix_groups (ranked ranks.now t.now) end) ≤ length numbers.old) × (at + length (starts_of size (suffix_groups (ranked ranks.now t.now) end)) ≤ length starts.old) }
-    ensures { WritesMiddle (ranked ranks.now t.now) end size numbers.old numbers.new starts.old starts.new at result }
+    requires { (length t.now ≤ 65535) × (end ≤ length t.now) × (3 * length (suffix_groups (ranked ranks.list.now t.now) end) ≤ length numbers.old) × (at + length (starts_of size (suffix_groups (ranked ranks.list.now t.now) end)) ≤ length starts.old) }
+    ensures { WritesMiddle (ranked ranks.entry.list.now t.now) end size numbers.old numbers.new starts.old starts.new at result }
 {
     let mut k = 0;
     let mut next = at;
@@ -45,7 +45,7 @@ fn write_middle(
 // Writes both rows in one pass, over the middle alone where the longest words are one run.
 pub fn write_rows(
     t: &[u8],
-    ranks: &[u8],
+    ranks: Ranking,
     end: usize,
     place: usize,
     found: Longest,
@@ -53,8 +53,8 @@ pub fn write_rows(
     numbers: &mut [u16],
     starts: &mut [u16],
 )
-    requires { Ranks ranks.now × Between (ranked ranks.now t.now) end place × Measures (ranked ranks.now t.now) found run × (length t.now ≤ 65535) × (3 * length (suffix_groups (take place (ranked ranks.now t.now)) end) ≤ length numbers.old) × (found.count ≤ length starts.old) }
-    ensures { (numbers.new ≡ written (group_numbers (suffix_groups (take place (ranked ranks.now t.now)) end)) numbers.old) × (starts.new ≡ written (longest_starts (ranked ranks.now t.now)) starts.old) }
+    requires { Between (ranked ranks.list.now t.now) end place × Measures (ranked ranks.list.now t.now) found run × (length t.now ≤ 65535) × (3 * length (suffix_groups (take place (ranked ranks.list.now t.now)) end) ≤ length numbers.old) × (found.count ≤ length starts.old) }
+    ensures { (numbers.new ≡ written (group_numbers (suffix_groups (take place (ranked ranks.entry.list.now t.now)) end)) numbers.old) × (starts.new ≡ written (longest_starts (ranked ranks.entry.list.now t.now)) starts.old) }
 {
     let size = found.length;
     if run == found.count {

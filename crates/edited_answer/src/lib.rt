@@ -16,43 +16,34 @@ use order_bytes::fill_byte_order;
 use refusals::MAX_PATTERN;
 use splicing::Edit;
 use symbols::ORDER;
-use text_writers::write_refusal;
+use text_writers::write_refused;
 
 // Writes all that is printed for an edit to the front of a buffer that holds every listing. The answer tells whether the edit is accepted; the
 // groups of the whole edited pattern are read off that pattern.
-pub fn write_answer(pattern: &[u8], from: usize, to: usize, block: &[u8], text: &mut [u8]) -> usize
-    requires { (length pattern.now ≤ max_pattern) × (max_listing ≤ length text.old) }
-    ensures { Puts (edit_output pattern.now from to block.now) 0 text.old text.new result }
+pub fn write_answer(edit: Edit, text: &mut [u8]) -> usize
+    requires { (length edit.pattern.now ≤ max_pattern) × (max_listing ≤ length text.old) }
+    ensures { Puts (edit_output edit.entry.pattern.now edit.entry.from edit.entry.to edit.entry.block.now) 0 text.old text.new result }
 {
     let mut order = [0u8; ORDER];
     fill_byte_order(&mut order);
     let mut array = [0u16; MAX_PATTERN];
     // no table is refused, nor is the answer by anything but 2, 3 and 4
-    let _ = lyndon_array(pattern, &order, &mut array);
+    let _ = lyndon_array(edit.pattern, &order, &mut array);
     let mut last = [0u16; MAX_PATTERN];
-    let _ = last_factors(pattern, &order, &mut last);
+    let _ = last_factors(edit.pattern, &order, &mut last);
     let mut middle = [0u16; 3 * MAX_MIDDLE];
     let mut starts = [0u16; MAX_PATTERN];
     let answer = core(
-        pattern,
+        edit,
         &order,
         &array,
         &last,
-        from,
-        to,
-        block,
         MAX_MIDDLE,
         &mut middle,
         &mut starts,
     );
     let Ok(_) = answer else {
-        return write_refusal(answer.unwrap_err(), text);
-    };
-    let edit = Edit {
-        pattern,
-        from,
-        to,
-        block,
+        return write_refused(answer.unwrap_err(), text);
     };
     write_edited(edit, text)
 }

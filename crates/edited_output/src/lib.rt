@@ -9,7 +9,8 @@ ghost use Rattle.edited_output.specs.Output.{Prints};
 use edit_file::parse;
 use edited_answer::write_answer;
 use refusals::{MAX_PATTERN, Refusal};
-use text_writers::write_refusal;
+use splicing::Edit;
+use text_writers::write_refused;
 
 // Writes all that is printed for the contents of the three files to the front of such a buffer.
 #[tactic(auto, using(text::proofs::Lengths::refusal_room))]
@@ -18,10 +19,16 @@ pub fn write_output(pattern: &[u8], block: &[u8], csv: &[u8], text: &mut [u8]) -
     ensures { Prints pattern.now block.now csv.now text.old text.new result }
 {
     if MAX_PATTERN < pattern.len() {
-        return write_refusal(Refusal::PatternTooLong, text);
+        return write_refused(Refusal::PatternTooLong, text);
     }
     let Some(stretch) = parse(csv) else {
-        return write_refusal(Refusal::PastEnd, text);
+        return write_refused(Refusal::PastEnd, text);
     };
-    write_answer(pattern, stretch.from, stretch.to, block, text)
+    let edit = Edit {
+        pattern,
+        from: stretch.from,
+        to: stretch.to,
+        block,
+    };
+    write_answer(edit, text)
 }

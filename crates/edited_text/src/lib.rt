@@ -10,6 +10,7 @@ ghost use Rattle.words.specs.Edit.{edited};
 
 use refusals::MAX_PATTERN;
 use splicing::{Edit, splice};
+use symbols::Ranking;
 use text_lines::write_text;
 
 // Writes the edited listing to the front of the buffer, and answers its length.
@@ -21,6 +22,5 @@ pub fn write_edited(edit: Edit, buffer: &mut [u8]) -> usize
     let mut t = [0u8; MAX_PATTERN];
     splice(edit, &mut t);
     let m = edit.edited_length();
-    // no ranks stand for byte order
-    write_text(&t[..m], &edit.pattern[..0], buffer)
+    write_text(&t[..m], Ranking::of_bytes(), buffer)
 }

@@ -48,7 +48,7 @@ pub fn are_lengths(table: &[u16], i: usize, at: usize) -> bool
     for k in 0..16 {
         let x = table[at + k];
         let y = (size + k + 1) as u16;
-        all = all & (x == y);
+        all &= x == y;
     }
     all
 }
@@ -63,7 +63,7 @@ pub fn same_entries(table: &[u16], from: usize, at: usize) -> bool
     for k in 0..16 {
         let x = table[from + k];
         let y = table[at + k];
-        all = all & (x == y);
+        all &= x == y;
     }
     all
 }

@@ -3,18 +3,18 @@
 #![tactic(auto)]
 
 ghost use Rattle.std.specs.Prelude.{◌≡◌, ◌+◌, ◌*◌, ◌≤◌, length, set};
-ghost use Rattle.ranks.specs.Inner.{Ranks};
 ghost use Rattle.ranks.specs.Ranks.{ranked};
 ghost use Rattle.rows.specs.Row.{written};
 ghost use Rattle.words.specs.Factors.{factors, group_numbers};
 ghost use Rattle.words.specs.Tables.{last_length, suffix_groups};
 
 use scan::groups;
+use symbols::Ranking;
 
 // The number of groups from a place on.
-pub fn count_groups(s: &[u8], ranks: &[u8], from: usize) -> usize
-    requires { Ranks ranks.now × (from ≤ length s.now) }
-    ensures { result ≡ length (suffix_groups (ranked ranks.now s.now) from) }
+pub fn count_groups(s: &[u8], ranks: Ranking, from: usize) -> usize
+    requires { from ≤ length s.now }
+    ensures { result ≡ length (suffix_groups (ranked ranks.entry.list.now s.now) from) }
 {
     groups(s, ranks, from).count()
 }
@@ -30,9 +30,9 @@ pub fn write_group(row: &mut [u16], at: usize, start: usize, size: usize, power:
 }
 
 // Writes the groups from a place on, three numbers each, and answers how many there are.
-pub fn fill_groups(s: &[u8], ranks: &[u8], from: usize, row: &mut [u16]) -> usize
-    requires { Ranks ranks.now × (length s.now ≤ 65535) × (from ≤ length s.now) × (3 * length (suffix_groups (ranked ranks.now s.now) from) ≤ length row.old) }
-    ensures { (result ≡ length (suffix_groups (ranked ranks.now s.now) from)) × (row.new ≡ written (group_numbers (suffix_groups (ranked ranks.now s.now) from)) row.old) }
+pub fn fill_groups(s: &[u8], ranks: Ranking, from: usize, row: &mut [u16]) -> usize
+    requires { (length s.now ≤ 65535) × (from ≤ length s.now) × (3 * length (suffix_groups (ranked ranks.list.now s.now) from) ≤ length row.old) }
+    ensures { (result ≡ length (suffix_groups (ranked ranks.entry.list.now s.now) from)) × (row.new ≡ written (group_numbers (suffix_groups (ranked ranks.entry.list.now s.now) from)) row.old) }
 {
     let mut at = 0;
     for g in groups(s, ranks, from) {
@@ -43,9 +43,8 @@ pub fn fill_groups(s: &[u8], ranks: &[u8], from: usize, row: &mut [u16]) -> usiz
 }
 
 // The length of the last factor of a pattern, 0 for the empty one.
-pub fn last_factor(s: &[u8], ranks: &[u8]) -> usize
-    requires { Ranks ranks.now }
-    ensures { result ≡ last_length (factors (ranked ranks.now s.now)) }
+pub fn last_factor(s: &[u8], ranks: Ranking) -> usize
+    ensures { result ≡ last_length (factors (ranked ranks.entry.list.now s.now)) }
 {
     let mut last = 0;
     for g in groups(s, ranks, 0) {

@@ -15,7 +15,7 @@ use std::process::ExitCode;
 use streams::read_full;
 use symbols::ORDER;
 use text::MAX_LISTING;
-use text_writers::write_refusal;
+use text_writers::write_refused;
 
 // Writes all that is printed for a pattern to the front of a buffer that holds every listing.
 fn write_output(pattern: &[u8], text: &mut [u8]) -> usize
@@ -26,7 +26,7 @@ fn write_output(pattern: &[u8], text: &mut [u8]) -> usize
     fill_byte_order(&mut order);
     match write_listing(pattern, &order, text) {
         Ok(count) => count,
-        Err(refusal) => write_refusal(refusal, text),
+        Err(refusal) => write_refused(refusal, text),
     }
 }
 

@@ -2,12 +2,12 @@
 #![tactic(auto)]
 
 ghost use Rattle.std.specs.Prelude.{◌≡◌, ◌+◌, ◌<◌};
-ghost use Rattle.ranks.specs.Inner.{Ranks};
 ghost use Rattle.ranks.specs.Ranks.{ranked};
 ghost use Rattle.longest.specs.Best.{better_of, run_of, Measures};
 
 use scan::groups;
 use std::cmp::Ordering;
+use symbols::Ranking;
 
 // The first of the longest Lyndon substrings, and how many there are.
 #[derive(Clone, Copy)]
@@ -54,9 +54,8 @@ pub struct LongestRun {
     pub run: usize,
 }
 
-pub fn measure(s: &[u8], ranks: &[u8]) -> LongestRun
-    requires { Ranks ranks.now }
-    ensures { Measures (ranked ranks.now s.now) result.found result.run }
+pub fn measure(s: &[u8], ranks: Ranking) -> LongestRun
+    ensures { Measures (ranked ranks.entry.list.now s.now) result.found result.run }
 {
     let mut best = Longest {
         start: 0,

@@ -9,6 +9,7 @@ use edit::{Counts, MAX_MIDDLE};
 use edit_core::core;
 use records::{Group, store_all};
 use refusals::Refusal;
+use splicing::Edit;
 
 // The middle groups go to a lent row of records.
 pub fn edit(
@@ -25,18 +26,13 @@ pub fn edit(
     ensures { EditAnswered pattern.now order.now array.now last.now from to block.now middle.old middle.new starts.old starts.new (answer_told result) }
 {
     let mut numbers = [0u16; 3 * MAX_MIDDLE];
-    let counts = core(
+    let edit = Edit {
         pattern,
-        order,
-        array,
-        last,
         from,
         to,
         block,
-        middle.len(),
-        &mut numbers,
-        starts,
-    )?;
+    };
+    let counts = core(edit, order, array, last, middle.len(), &mut numbers, starts)?;
     store_all(middle, &numbers, counts.groups);
     Ok(counts)
 }

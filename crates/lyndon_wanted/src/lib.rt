@@ -26,7 +26,7 @@ pub fn realise_array(wanted: &[u16], order: &[u8], pattern: &mut [u8]) -> Result
         return Err(Refusal::RowTooShort);
     }
     write_symbols(wanted, pattern);
-    if 0 < ranks.len() {
+    if 0 < ranks.list.len() {
         let bytes = bytes_of(order);
         replace_ranks(pattern, wanted.len(), &bytes);
     }

@@ -9,7 +9,7 @@ ghost use Rattle.ranks.specs.Inner.{Handed};
 
 use refusals::Refusal;
 use std::num::wrapping_add_u8;
-use symbols::ORDER;
+use symbols::{ORDER, Ranking};
 
 // Whether each of the sixteen ranks from i on is one more than the rank before it, and so needs no list to be compared with.
 fn rising_block(order: &[u8], i: usize) -> bool
@@ -58,18 +58,19 @@ fn none_twice(order: &[u8]) -> bool
 }
 
 // The test of refusal 13: the ranks to be handed down, which are none of byte order.
-pub fn test_order(order: &[u8]) -> Result<&[u8], Refusal>
-    ensures accepted { IfOk result (λ ranks. Handed order.now ranks.now) }
+#[tactic(auto, using(ranks::proofs::Marks::order_true, ranks::proofs::Marks::wrong_size, ranks::proofs::Marks::handed_all, ranks::proofs::Marks::handed_none))]
+pub fn test_order(order: &[u8]) -> Result<Ranking, Refusal>
+    ensures accepted { IfOk result (λ ranks. Handed order.now ranks.list.now) }
     ensures refused { IfErr result (λ refusal. (refusal ≡ Refusal.NotAnOrder) × (is_order order.now ≡ false)) }
 {
     if order.len() != ORDER {
         return Err(Refusal::NotAnOrder);
     }
     if is_byte_order(order) {
-        return Ok(&order[..0]);
+        return Ok(Ranking::of_bytes());
     }
     if none_twice(order) {
-        return Ok(order);
+        return Ok(Ranking::of_order(order));
     }
     Err(Refusal::NotAnOrder)
 }

@@ -4,11 +4,9 @@
 
 ghost use Rattle.std.specs.Iterator.{YieldsFirstBy, item_count};
 ghost use Rattle.std.specs.Prelude.{◌≡◌, ◌*◌, ◌<◌, ◌≤◌, length, reverse, take};
-ghost use Rattle.ranks.specs.Inner.{Ranks};
 ghost use Rattle.ranks.specs.Ranks.{ranked};
 ghost use Rattle.rows.specs.Row.{written};
 ghost use Rattle.scan.specs.Group.{group_of};
-ghost use Rattle.scan.specs.Known.{ranks_prop};
 ghost use Rattle.words.specs.Factors.{group_numbers};
 ghost use Rattle.words.specs.Tables.{last_factors, prefix_groups};
 ghost use Rattle.prefix_chain.specs.Last.{LastGroup};
@@ -16,11 +14,12 @@ ghost use Rattle.prefix_chain.specs.Last.{LastGroup};
 use comparing::agree;
 use factoring::write_group;
 use scan::{GroupAt, Stretch};
+use symbols::Ranking;
 
 // The group of factors that ends at q, of the first q symbols.
-fn group_before(s: &[u8], ranks: &[u8], table: &[u16], q: usize) -> Stretch
-    requires { Ranks ranks.now × (0 < q) × (q ≤ length s.now) × (take (length s.now) table.now ≡ last_factors (ranked ranks.now s.now)) }
-    ensures { LastGroup (ranked ranks.now s.now) q result.length result.power }
+fn group_before(s: &[u8], ranks: Ranking, table: &[u16], q: usize) -> Stretch
+    requires { (0 < q) × (q ≤ length s.now) × (take (length s.now) table.now ≡ last_factors (ranked ranks.list.now s.now)) }
+    ensures { LastGroup (ranked ranks.entry.list.now s.now) q result.length result.power }
 {
     let length = table[q - 1] as usize;
     let from = q - length;
@@ -45,20 +44,19 @@ fn group_before(s: &[u8], ranks: &[u8], table: &[u16], q: usize) -> Stretch
 #[derive(Drop)]
 struct GroupsBack<'a> {
     s: &'a [u8],
-    ranks: &'a [u8],
+    ranks: Ranking<'a>,
     table: &'a [u16],
     end: usize,
-    ghost known: { Ranks ranks.now } by { ranks_prop ranks.now },
-    ghost last: { take (length s.now) table.now ≡ last_factors (ranked ranks.now s.now) },
+    ghost last: { take (length s.now) table.now ≡ last_factors (ranked ranks.list.now s.now) },
     ghost within: { end ≤ length s.now },
 }
 
 impl<'a> Iterator for GroupsBack<'a> {
     type Item = GroupAt;
 
-    ghost next_gives = { YieldsFirstBy (λ g. group_of g.start g.length g.power) (λ it. reverse (prefix_groups (ranked it.ranks.now it.s.now) it.end)) };
+    ghost next_gives = { YieldsFirstBy (λ g. group_of g.start g.length g.power) (λ it. reverse (prefix_groups (ranked it.ranks.list.now it.s.now) it.end)) };
 
-    ghost remaining = { item_count (λ it. reverse (prefix_groups (ranked it.ranks.now it.s.now) it.end)) };
+    ghost remaining = { item_count (λ it. reverse (prefix_groups (ranked it.ranks.list.now it.s.now) it.end)) };
 
     #[inline(always)]
     fn next(&mut self) -> Option<GroupAt> {
@@ -77,9 +75,9 @@ impl<'a> Iterator for GroupsBack<'a> {
 }
 
 // The number of groups of the first `end` symbols.
-pub fn count_prefix(s: &[u8], ranks: &[u8], table: &[u16], end: usize) -> usize
-    requires { Ranks ranks.now × (end ≤ length s.now) × (take (length s.now) table.now ≡ last_factors (ranked ranks.now s.now)) }
-    ensures { result ≡ length (prefix_groups (ranked ranks.now s.now) end) }
+pub fn count_prefix(s: &[u8], ranks: Ranking, table: &[u16], end: usize) -> usize
+    requires { (end ≤ length s.now) × (take (length s.now) table.now ≡ last_factors (ranked ranks.list.now s.now)) }
+    ensures { result ≡ length (prefix_groups (ranked ranks.entry.list.now s.now) end) }
 {
     let groups = GroupsBack {
         s,
@@ -93,15 +91,15 @@ pub fn count_prefix(s: &[u8], ranks: &[u8], table: &[u16], end: usize) -> usize
 // Writes the groups of the first `end` symbols, of which there are `count`, three numbers each, from the last to the first.
 pub fn write_prefix(
     s: &[u8],
-    ranks: &[u8],
+    ranks: Ranking,
     table: &[u16],
     end: usize,
     count: usize,
     row: &mut [u16],
 )
-    requires { Ranks ranks.now × (length s.now ≤ 65535) × (end ≤ length s.now) × (take (length s.now) table.now ≡ last_factors (ranked ranks.now s.now))
-        × (count ≡ length (prefix_groups (ranked ranks.now s.now) end)) × (3 * count ≤ length row.old) }
-    ensures { row.new ≡ written (group_numbers (prefix_groups (ranked ranks.now s.now) end)) row.old }
+    requires { (length s.now ≤ 65535) × (end ≤ length s.now) × (take (length s.now) table.now ≡ last_factors (ranked ranks.list.now s.now))
+        × (count ≡ length (prefix_groups (ranked ranks.list.now s.now) end)) × (3 * count ≤ length row.old) }
+    ensures { row.new ≡ written (group_numbers (prefix_groups (ranked ranks.entry.list.now s.now) end)) row.old }
 {
     let mut at = 3 * count;
     let groups = GroupsBack {

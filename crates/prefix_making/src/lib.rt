@@ -2,7 +2,6 @@
 #![tactic(auto)]
 
 ghost use Rattle.std.specs.Prelude.{◌≡◌, ◌≤◌, length};
-ghost use Rattle.ranks.specs.Inner.{Ranks};
 ghost use Rattle.ranks.specs.Ranks.{ranked};
 ghost use Rattle.rows.specs.Row.{written};
 ghost use Rattle.words.specs.Demand.{FactorStart};
@@ -12,13 +11,13 @@ ghost use Rattle.prefix_making.specs.Made.{MadeFrom};
 use entries::steps;
 use leaps::next_gap;
 use prefix_making_leaps::make_blocks;
-use symbols::below;
+use symbols::Ranking;
 
 // Writes the entries of one scan from i on, and answers where the next scan starts.
 #[tactic(auto, using(ranks::proofs::Ranked::length_ranked))]
-fn make_from(s: &[u8], ranks: &[u8], table: &mut [u16], i: usize) -> usize
-    requires { Ranks ranks.now × FactorStart (ranked ranks.now s.now) i × (length s.now ≤ 65535) × (length s.now ≤ length table.old) }
-    ensures { MadeFrom (ranked ranks.now s.now) table.old table.new i result }
+fn make_from(s: &[u8], ranks: Ranking, table: &mut [u16], i: usize) -> usize
+    requires { FactorStart (ranked ranks.list.now s.now) i × (length s.now ≤ 65535) × (length s.now ≤ length table.old) }
+    ensures { MadeFrom (ranked ranks.entry.list.now s.now) table.old table.new i result }
 {
     let n = s.len();
     table[i] = 1;
@@ -32,7 +31,7 @@ fn make_from(s: &[u8], ranks: &[u8], table: &mut [u16], i: usize) -> usize
             let x = s[k - p];
             let y = s[k];
             if x != y {
-                if below(ranks, y, x) {
+                if ranks.below(y, x) {
                     return k - (k - i) % p;
                 }
                 p = k + 1 - i;
@@ -49,9 +48,9 @@ fn make_from(s: &[u8], ranks: &[u8], table: &mut [u16], i: usize) -> usize
     j - (j - i) % p
 }
 
-pub fn make_last_factors(s: &[u8], ranks: &[u8], table: &mut [u16])
-    requires { Ranks ranks.now × (length s.now ≤ 65535) × (length s.now ≤ length table.old) }
-    ensures { table.new ≡ written (last_factors (ranked ranks.now s.now)) table.old }
+pub fn make_last_factors(s: &[u8], ranks: Ranking, table: &mut [u16])
+    requires { (length s.now ≤ 65535) × (length s.now ≤ length table.old) }
+    ensures { table.new ≡ written (last_factors (ranked ranks.entry.list.now s.now)) table.old }
 {
     let mut i = 0;
     // no range: where a scan ends is known after it

@@ -2,7 +2,6 @@
 #![tactic(auto)]
 
 ghost use Rattle.std.specs.Prelude.{◌-◌, ◌≤◌, ◌<◌, length};
-ghost use Rattle.ranks.specs.Inner.{Ranks};
 ghost use Rattle.ranks.specs.Ranks.{ranked};
 ghost use Rattle.words.specs.Demand.{FactorStart};
 ghost use Rattle.prefix_table.specs.State.{Back};
@@ -12,6 +11,7 @@ use above::{above_block, above_end};
 use agreeing::agree_block;
 use entries::{copy_entries, write_lengths};
 use leaps::Mark;
+use symbols::Ranking;
 
 // How far back sixteen entries are copied from: one word, or as many short ones as do not overlap with the copy.
 fn copied_from(p: usize) -> usize
@@ -22,10 +22,10 @@ fn copied_from(p: usize) -> usize
 }
 
 // Makes entries from `from` on by blocks of bytes that are above the word's first.
-fn make_above(s: &[u8], ranks: &[u8], table: &mut [u16], i: usize, from: usize) -> usize
-    requires { Ranks ranks.now × FactorStart (ranked ranks.now s.now) i × (length s.now ≤ 65535)
-        × Making (ranked ranks.now s.now) table.old table.old i from (from - i) }
-    ensures { (from ≤ result) × Making (ranked ranks.now s.now) table.old table.new i result (result - i) }
+fn make_above(s: &[u8], ranks: Ranking, table: &mut [u16], i: usize, from: usize) -> usize
+    requires { FactorStart (ranked ranks.list.now s.now) i × (length s.now ≤ 65535)
+        × Making (ranked ranks.list.now s.now) table.old table.old i from (from - i) }
+    ensures { (from ≤ result) × Making (ranked ranks.entry.list.now s.now) table.old table.new i result (result - i) }
 {
     let c = s[i];
     let end = above_end(s, ranks, from, c);
@@ -44,16 +44,16 @@ fn make_above(s: &[u8], ranks: &[u8], table: &mut [u16], i: usize, from: usize) 
 // Makes entries from `from` on by blocks of bytes that stand some words earlier too.
 fn make_again(
     s: &[u8],
-    ranks: &[u8],
+    ranks: Ranking,
     table: &mut [u16],
     i: usize,
     from: usize,
     p: usize,
     back: usize,
 ) -> usize
-    requires { Ranks ranks.now × FactorStart (ranked ranks.now s.now) i × (16 ≤ back) × Back i from p back
-        × Making (ranked ranks.now s.now) table.old table.old i from p }
-    ensures { (from ≤ result) × Making (ranked ranks.now s.now) table.old table.new i result p }
+    requires { FactorStart (ranked ranks.list.now s.now) i × (16 ≤ back) × Back i from p back
+        × Making (ranked ranks.list.now s.now) table.old table.old i from p }
+    ensures { (from ≤ result) × Making (ranked ranks.entry.list.now s.now) table.old table.new i result p }
 {
     let mut j = from;
     // no range by sixteens: where it stops after whole blocks is the answer
@@ -68,10 +68,17 @@ fn make_again(
 }
 
 // Makes entries by blocks, as long as that goes.
-pub fn make_blocks(s: &[u8], ranks: &[u8], table: &mut [u16], i: usize, j: usize, p: usize) -> Mark
-    requires { Ranks ranks.now × FactorStart (ranked ranks.now s.now) i × (length s.now ≤ 65535)
-        × Making (ranked ranks.now s.now) table.old table.old i j p }
-    ensures { (j ≤ result.j) × Making (ranked ranks.now s.now) table.old table.new i result.j result.p }
+pub fn make_blocks(
+    s: &[u8],
+    ranks: Ranking,
+    table: &mut [u16],
+    i: usize,
+    j: usize,
+    p: usize,
+) -> Mark
+    requires { FactorStart (ranked ranks.list.now s.now) i × (length s.now ≤ 65535)
+        × Making (ranked ranks.list.now s.now) table.old table.old i j p }
+    ensures { (j ≤ result.j) × Making (ranked ranks.entry.list.now s.now) table.old table.new i result.j result.p }
 {
     if p == j - i {
         let end = make_above(s, ranks, table, i, j);

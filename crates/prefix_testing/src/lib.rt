@@ -4,7 +4,6 @@
 
 ghost use Rattle.std.specs.Prelude.{◌≡◌, ◌≤◌, ◌<◌, length, take};
 ghost use Rattle.std.specs.Option.{MatchOption};
-ghost use Rattle.ranks.specs.Inner.{Ranks};
 ghost use Rattle.ranks.specs.Ranks.{ranked};
 ghost use Rattle.words.specs.Demand.{FactorStart};
 ghost use Rattle.words.specs.Order.{same};
@@ -14,13 +13,13 @@ ghost use Rattle.prefix_testing.specs.Tested.{TestedFrom};
 use entries::steps;
 use leaps::next_gap;
 use prefix_testing_leaps::test_blocks;
-use symbols::below;
+use symbols::Ranking;
 
 // Tests the entries of one scan from i on, and answers where the next scan starts, if none of them is wrong.
 #[tactic(auto, using(ranks::proofs::Ranked::length_ranked))]
-fn test_from(s: &[u8], ranks: &[u8], table: &[u16], i: usize) -> Option<usize>
-    requires { Ranks ranks.now × FactorStart (ranked ranks.now s.now) i × (length s.now ≤ length table.now) }
-    ensures { MatchOption result (TestedFrom (ranked ranks.now s.now) table.now i i) (λ next. (i < next) × TestedFrom (ranked ranks.now s.now) table.now i next) }
+fn test_from(s: &[u8], ranks: Ranking, table: &[u16], i: usize) -> Option<usize>
+    requires { FactorStart (ranked ranks.list.now s.now) i × (length s.now ≤ length table.now) }
+    ensures { MatchOption result (TestedFrom (ranked ranks.entry.list.now s.now) table.now i i) (λ next. (i < next) × TestedFrom (ranked ranks.entry.list.now s.now) table.now i next) }
 {
     if table[i] != 1 {
         return None;
@@ -36,7 +35,7 @@ fn test_from(s: &[u8], ranks: &[u8], table: &[u16], i: usize) -> Option<usize>
             let old = s[k - size];
             let new = s[k];
             if old != new {
-                if below(ranks, new, old) {
+                if ranks.below(new, old) {
                     return Some(k - (k - i) % size);
                 }
                 size = k + 1 - i;
@@ -56,9 +55,9 @@ fn test_from(s: &[u8], ranks: &[u8], table: &[u16], i: usize) -> Option<usize>
 }
 
 // Whether the first entries of the table are the lengths of the last factors of the pattern's prefixes.
-pub fn is_last_factors(s: &[u8], ranks: &[u8], table: &[u16]) -> bool
-    requires { Ranks ranks.now × (length s.now ≤ length table.now) }
-    ensures { result ≡ same (take (length s.now) table.now) (last_factors (ranked ranks.now s.now)) }
+pub fn is_last_factors(s: &[u8], ranks: Ranking, table: &[u16]) -> bool
+    requires { length s.now ≤ length table.now }
+    ensures { result ≡ same (take (length s.now) table.now) (last_factors (ranked ranks.entry.list.now s.now)) }
 {
     let mut start = 0;
     // no range: where a scan ends is known after it

@@ -2,7 +2,6 @@
 #![tactic(auto)]
 
 ghost use Rattle.std.specs.Prelude.{◌-◌, ◌≤◌, length};
-ghost use Rattle.ranks.specs.Inner.{Ranks};
 ghost use Rattle.ranks.specs.Ranks.{ranked};
 ghost use Rattle.words.specs.Demand.{FactorStart};
 ghost use Rattle.prefix_table.specs.State.{Testing};
@@ -11,12 +10,13 @@ use above::{above_block, above_end};
 use agreeing::agree_block;
 use entries::{are_lengths, same_entries};
 use leaps::Mark;
+use symbols::Ranking;
 
 // Tests entries from `from` on by blocks of bytes that are above the word's first, and answers how far they are right.
-fn test_above(s: &[u8], ranks: &[u8], table: &[u16], i: usize, from: usize) -> usize
-    requires { Ranks ranks.now × FactorStart (ranked ranks.now s.now) i × (length s.now ≤ length table.now)
-        × Testing (ranked ranks.now s.now) table.now i from (from - i) }
-    ensures { (from ≤ result) × Testing (ranked ranks.now s.now) table.now i result (result - i) }
+fn test_above(s: &[u8], ranks: Ranking, table: &[u16], i: usize, from: usize) -> usize
+    requires { FactorStart (ranked ranks.list.now s.now) i × (length s.now ≤ length table.now)
+        × Testing (ranked ranks.list.now s.now) table.now i from (from - i) }
+    ensures { (from ≤ result) × Testing (ranked ranks.entry.list.now s.now) table.now i result (result - i) }
 {
     let c = s[i];
     let end = above_end(s, ranks, from, c);
@@ -35,10 +35,10 @@ fn test_above(s: &[u8], ranks: &[u8], table: &[u16], i: usize, from: usize) -> u
 }
 
 // Tests entries from `from` on by blocks of bytes that stand a word earlier too, and answers how far they are right.
-fn test_again(s: &[u8], ranks: &[u8], table: &[u16], i: usize, from: usize, p: usize) -> usize
-    requires { Ranks ranks.now × FactorStart (ranked ranks.now s.now) i × (length s.now ≤ length table.now)
-        × Testing (ranked ranks.now s.now) table.now i from p }
-    ensures { (from ≤ result) × Testing (ranked ranks.now s.now) table.now i result p }
+fn test_again(s: &[u8], ranks: Ranking, table: &[u16], i: usize, from: usize, p: usize) -> usize
+    requires { FactorStart (ranked ranks.list.now s.now) i × (length s.now ≤ length table.now)
+        × Testing (ranked ranks.list.now s.now) table.now i from p }
+    ensures { (from ≤ result) × Testing (ranked ranks.entry.list.now s.now) table.now i result p }
 {
     let mut j = from;
     // no range by sixteens: where it stops after whole blocks is the answer
@@ -55,10 +55,10 @@ fn test_again(s: &[u8], ranks: &[u8], table: &[u16], i: usize, from: usize, p: u
 }
 
 // Tests entries by blocks, as long as that goes.
-pub fn test_blocks(s: &[u8], ranks: &[u8], table: &[u16], i: usize, j: usize, p: usize) -> Mark
-    requires { Ranks ranks.now × FactorStart (ranked ranks.now s.now) i × (length s.now ≤ length table.now)
-        × Testing (ranked ranks.now s.now) table.now i j p }
-    ensures { (j ≤ result.j) × Testing (ranked ranks.now s.now) table.now i result.j result.p }
+pub fn test_blocks(s: &[u8], ranks: Ranking, table: &[u16], i: usize, j: usize, p: usize) -> Mark
+    requires { FactorStart (ranked ranks.list.now s.now) i × (length s.now ≤ length table.now)
+        × Testing (ranked ranks.list.now s.now) table.now i j p }
+    ensures { (j ≤ result.j) × Testing (ranked ranks.entry.list.now s.now) table.now i result.j result.p }
 {
     if p == j - i {
         let end = test_above(s, ranks, table, i, j);

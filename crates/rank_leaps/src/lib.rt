@@ -4,12 +4,12 @@
 
 ghost use Rattle.std.specs.Prelude.{true, ◌≡◌, ◌≤◌, ◌+◌, ◌-◌, length};
 ghost use Rattle.words.specs.Scan.{Scan};
-ghost use Rattle.ranks.specs.Inner.{Ranks};
 ghost use Rattle.ranks.specs.Ranks.{rank, ranked};
 ghost use Rattle.rank_leaps.specs.Broken.{Broken, AtLeast};
 
 use above::ranks_above;
 use rising::{breaks, last_other};
+use symbols::Ranking;
 
 // Whether no eight bytes c begin at one of the sixteen places from j on.
 fn broken_block(s: &[u8], j: usize, c: u8) -> bool
@@ -55,14 +55,14 @@ fn ranks_run(s: &[u8], ranks: &[u8], j: usize, c: u8) -> usize
 // Where the Lyndon word from i to j, of eight bytes or more, ends after it has grown over blocks of ranks above its first, or, where the word begins
 // with eight bytes c, over blocks in which no eight begin and no rank is below.
 #[tactic(auto, using(ranks::proofs::Ranked::length_ranked))]
-pub fn grow_ranks(s: &[u8], ranks: &[u8], i: usize, j: usize) -> usize
-    requires { Ranks ranks.now × (length ranks.now ≡ 256) × (i + 8 ≤ j) × Scan (ranked ranks.now s.now) i j (j - i) }
-    ensures { (j ≤ result) × Scan (ranked ranks.now s.now) i result (result - i) }
+pub fn grow_ranks(s: &[u8], ranks: Ranking, i: usize, j: usize) -> usize
+    requires { (length ranks.list.now ≡ 256) × (i + 8 ≤ j) × Scan (ranked ranks.list.now s.now) i j (j - i) }
+    ensures { (j ≤ result) × Scan (ranked ranks.entry.list.now s.now) i result (result - i) }
 {
     let c = s[i];
     if breaks(s, i, c) {
-        return ranks_above(s, ranks, j, c);
+        return ranks_above(s, ranks.list, j, c);
     }
-    let k = ranks_run(s, ranks, j, c);
+    let k = ranks_run(s, ranks.list, j, c);
     last_other(s, j, k, c)
 }

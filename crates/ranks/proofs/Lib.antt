@@ -1,5 +1,6 @@
 pub mod Times
 pub mod Ranked
+pub mod Known
 pub mod Marks
 pub mod Smaller
 pub mod Shared

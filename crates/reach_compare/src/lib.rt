@@ -2,13 +2,12 @@
 #![tactic(auto)]
 
 ghost use Rattle.std.specs.Prelude.{◌+◌, ◌<◌, ◌≤◌, length};
-ghost use Rattle.ranks.specs.Inner.{Ranks};
 ghost use Rattle.ranks.specs.Ranks.{ranked};
 ghost use Rattle.memo.specs.Memo.{Alike};
 ghost use Rattle.agreeing.specs.Agrees.{Agrees};
 ghost use Rattle.reach_compare.specs.Beside.{Compares, Beside};
 
-use symbols::below;
+use symbols::Ranking;
 
 // How far a word agrees with the next one, and whether it is smaller. No Option: both are told of every two words.
 #[derive(Clone, Copy)]
@@ -20,15 +19,15 @@ pub struct Step {
 // The word from i up to j beside the next one, of y bytes; the shorter of the two has `len`, and the first `known` bytes of these agree.
 fn beside_from(
     s: &[u8],
-    ranks: &[u8],
+    ranks: Ranking,
     i: usize,
     j: usize,
     y: usize,
     len: usize,
     known: usize,
 ) -> Step
-    requires { Ranks ranks.now × Compares s.now i j y len × (known ≤ len) × Agrees s.now i s.now j known }
-    ensures { Beside (ranked ranks.now s.now) i j y result.e result.up }
+    requires { Compares s.now i j y len × (known ≤ len) × Agrees s.now i s.now j known }
+    ensures { Beside (ranked ranks.entry.list.now s.now) i j y result.e result.up }
 {
     for e in known..len {
         let x = s[i + e];
@@ -36,7 +35,7 @@ fn beside_from(
         if x != z {
             return Step {
                 e,
-                up: below(ranks, x, z),
+                up: ranks.below(x, z),
             };
         }
     }
@@ -47,25 +46,25 @@ fn beside_from(
 }
 
 // The same where nothing is known. Mostly the first bytes tell.
-pub fn beside_anew(s: &[u8], ranks: &[u8], i: usize, j: usize, y: usize) -> Step
-    requires { Ranks ranks.now × (i < j) × (0 < y) × (j + y ≤ length s.now) }
-    ensures { Beside (ranked ranks.now s.now) i j y result.e result.up }
+pub fn beside_anew(s: &[u8], ranks: Ranking, i: usize, j: usize, y: usize) -> Step
+    requires { (i < j) × (0 < y) × (j + y ≤ length s.now) }
+    ensures { Beside (ranked ranks.entry.list.now s.now) i j y result.e result.up }
 {
     let c = s[i];
     let d = s[j];
     if c != d {
         return Step {
             e: 0,
-            up: below(ranks, c, d),
+            up: ranks.below(c, d),
         };
     }
     beside_from(s, ranks, i, j, y, (j - i).min(y), 0)
 }
 
 // The same where the first `known` bytes agree.
-pub fn beside(s: &[u8], ranks: &[u8], i: usize, j: usize, y: usize, known: usize) -> Step
-    requires { Ranks ranks.now × (i < j) × (0 < y) × (j + y ≤ length s.now) × Alike (ranked ranks.now s.now) i j known }
-    ensures { Beside (ranked ranks.now s.now) i j y result.e result.up }
+pub fn beside(s: &[u8], ranks: Ranking, i: usize, j: usize, y: usize, known: usize) -> Step
+    requires { (i < j) × (0 < y) × (j + y ≤ length s.now) × Alike (ranked ranks.list.now s.now) i j known }
+    ensures { Beside (ranked ranks.entry.list.now s.now) i j y result.e result.up }
 {
     if known == 0 {
         return beside_anew(s, ranks, i, j, y);

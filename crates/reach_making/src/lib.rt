@@ -2,7 +2,6 @@
 #![tactic(auto)]
 
 ghost use Rattle.std.specs.Prelude.{◌≡◌, ◌≤◌, length};
-ghost use Rattle.ranks.specs.Inner.{Ranks};
 ghost use Rattle.ranks.specs.Ranks.{ranked};
 ghost use Rattle.rows.specs.Filled.{Filled};
 ghost use Rattle.rows.specs.Row.{written};
@@ -12,11 +11,12 @@ ghost use Rattle.reach_table.specs.Reached.{EntriesFrom};
 
 use memo::{Kept, SLOTS};
 use reach_table::{allowance, longest_at, merge_at};
+use symbols::Ranking;
 
 // Makes entries by comparison alone, from the right, for as long as that is cheap: the place from which on they are made.
-fn make_plain(s: &[u8], ranks: &[u8], table: &mut [u16]) -> usize
-    requires { Ranks ranks.now × (length s.now ≤ 65535) × (length s.now ≤ length table.old) }
-    ensures { (result ≤ length s.now) × Filled (longest_at (ranked ranks.now s.now)) (length s.now) table.old table.new result (length s.now) }
+fn make_plain(s: &[u8], ranks: Ranking, table: &mut [u16]) -> usize
+    requires { (length s.now ≤ 65535) × (length s.now ≤ length table.old) }
+    ensures { (result ≤ length s.now) × Filled (longest_at (ranked ranks.entry.list.now s.now)) (length s.now) table.old table.new result (length s.now) }
 {
     let mut budget = allowance(s);
     for i in (0..s.len()).rev() {
@@ -32,9 +32,9 @@ fn make_plain(s: &[u8], ranks: &[u8], table: &mut [u16]) -> usize
 }
 
 // Makes the entries before `from`, with a true memo.
-fn make_by(s: &[u8], ranks: &[u8], table: &mut [u16], from: usize, memo: &mut [Kept])
-    requires { Ranks ranks.now × (length s.now ≤ 65535) × (from ≤ length s.now) × EntriesFrom (ranked ranks.now s.now) table.old from × Memo (ranked ranks.now s.now) memo.old }
-    ensures { Filled (longest_at (ranked ranks.now s.now)) (length s.now) table.old table.new 0 (length s.now) }
+fn make_by(s: &[u8], ranks: Ranking, table: &mut [u16], from: usize, memo: &mut [Kept])
+    requires { (length s.now ≤ 65535) × (from ≤ length s.now) × EntriesFrom (ranked ranks.list.now s.now) table.old from × Memo (ranked ranks.list.now s.now) memo.old }
+    ensures { Filled (longest_at (ranked ranks.entry.list.now s.now)) (length s.now) table.old table.new 0 (length s.now) }
 {
     for i in (0..from).rev() {
         let l = longest_at(s, ranks, table, i, memo);
@@ -43,17 +43,17 @@ fn make_by(s: &[u8], ranks: &[u8], table: &mut [u16], from: usize, memo: &mut [K
 }
 
 // Makes the entries before `from`, where those from there on are right.
-fn make_rest(s: &[u8], ranks: &[u8], table: &mut [u16], from: usize)
-    requires { Ranks ranks.now × (length s.now ≤ 65535) × (from ≤ length s.now) × EntriesFrom (ranked ranks.now s.now) table.old from }
-    ensures { Filled (longest_at (ranked ranks.now s.now)) (length s.now) table.old table.new 0 (length s.now) }
+fn make_rest(s: &[u8], ranks: Ranking, table: &mut [u16], from: usize)
+    requires { (length s.now ≤ 65535) × (from ≤ length s.now) × EntriesFrom (ranked ranks.list.now s.now) table.old from }
+    ensures { Filled (longest_at (ranked ranks.entry.list.now s.now)) (length s.now) table.old table.new 0 (length s.now) }
 {
     let mut memo = [Kept::NONE; SLOTS];
     make_by(s, ranks, table, from, &mut memo);
 }
 
-pub fn make_lyndon_array(s: &[u8], ranks: &[u8], table: &mut [u16])
-    requires { Ranks ranks.now × (length s.now ≤ 65535) × (length s.now ≤ length table.old) }
-    ensures { table.new ≡ written (lyndon_array (ranked ranks.now s.now)) table.old }
+pub fn make_lyndon_array(s: &[u8], ranks: Ranking, table: &mut [u16])
+    requires { (length s.now ≤ 65535) × (length s.now ≤ length table.old) }
+    ensures { table.new ≡ written (lyndon_array (ranked ranks.entry.list.now s.now)) table.old }
 {
     let left = make_plain(s, ranks, table);
     if 0 < left {

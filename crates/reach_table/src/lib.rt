@@ -4,7 +4,6 @@
 #![tactic(auto)]
 
 ghost use Rattle.std.specs.Prelude.{◌≡◌, ◌+◌, ◌<◌, length};
-ghost use Rattle.ranks.specs.Inner.{Ranks};
 ghost use Rattle.ranks.specs.Ranks.{ranked};
 ghost use Rattle.words.specs.Tables.{longest_at};
 ghost use Rattle.memo.specs.Memo.{Memo};
@@ -12,6 +11,7 @@ ghost use Rattle.reach_table.specs.Reached.{EntriesFrom, Reached};
 
 use memo::{Kept, best, entry, keep, recall};
 use reach_compare::{beside, beside_anew};
+use symbols::Ranking;
 
 // The entry of a place, and how many bytes agreed where its word ended.
 #[derive(Clone, Copy)]
@@ -21,9 +21,9 @@ pub struct Merged {
 }
 
 // The length of the longest Lyndon substring at i, from the entries of the table behind i, by comparison alone.
-pub fn merge_at(s: &[u8], ranks: &[u8], table: &[u16], i: usize) -> Merged
-    requires { Ranks ranks.now × (i < length s.now) × EntriesFrom (ranked ranks.now s.now) table.now (i + 1) }
-    ensures { result.length ≡ longest_at (ranked ranks.now s.now) i }
+pub fn merge_at(s: &[u8], ranks: Ranking, table: &[u16], i: usize) -> Merged
+    requires { (i < length s.now) × EntriesFrom (ranked ranks.list.now s.now) table.now (i + 1) }
+    ensures { result.length ≡ longest_at (ranked ranks.entry.list.now s.now) i }
 {
     let mut j = i + 1;
     // no range: how long each word is, its entry says
@@ -46,9 +46,9 @@ pub fn merge_at(s: &[u8], ranks: &[u8], table: &[u16], i: usize) -> Merged
 }
 
 // The same with a memo: what is known of the last word taken in, which starts at i + d, tells how far i agrees with the next.
-pub fn longest_at(s: &[u8], ranks: &[u8], table: &[u16], i: usize, memo: &mut [Kept]) -> usize
-    requires { Ranks ranks.now × (i < length s.now) × EntriesFrom (ranked ranks.now s.now) table.now (i + 1) × Memo (ranked ranks.now s.now) memo.old }
-    ensures { Reached (ranked ranks.now s.now) i memo.new result }
+pub fn longest_at(s: &[u8], ranks: Ranking, table: &[u16], i: usize, memo: &mut [Kept]) -> usize
+    requires { (i < length s.now) × EntriesFrom (ranked ranks.list.now s.now) table.now (i + 1) × Memo (ranked ranks.list.now s.now) memo.old }
+    ensures { Reached (ranked ranks.entry.list.now s.now) i memo.new result }
 {
     let mut j = i + 1;
     let mut d = 0;
@@ -60,11 +60,11 @@ pub fn longest_at(s: &[u8], ranks: &[u8], table: &[u16], i: usize, memo: &mut [K
         let next = beside(s, ranks, i, j, y, edge.min(shared));
         let e = next.e;
         if !next.up {
-            keep(s, ranks, memo, i, e, d, best(shared, edge, e));
+            keep(s, ranks.list, memo, i, e, d, best(shared, edge, e));
             return j - i;
         }
         d = j - i;
-        let k = recall(s, ranks, memo, i, d, e);
+        let k = recall(s, ranks.list, memo, i, d, e);
         edge = k.edge;
         shared = k.shared;
         j += y;

@@ -3,7 +3,6 @@
 
 ghost use Rattle.std.specs.Prelude.{true, false, ◌≡◌, ℕ, ◌≤◌, length, take};
 ghost use Rattle.std.specs.Option.{MatchOption};
-ghost use Rattle.ranks.specs.Inner.{Ranks};
 ghost use Rattle.ranks.specs.Ranks.{ranked};
 ghost use Rattle.words.specs.Order.{same};
 ghost use Rattle.words.specs.Tables.{lyndon_array};
@@ -13,11 +12,12 @@ ghost use Rattle.reach_testing.specs.Tested.{TestedTo};
 
 use memo::{Kept, SLOTS, entry};
 use reach_table::{allowance, longest_at, merge_at};
+use symbols::Ranking;
 
 // Tests entries by comparison alone, from the right, for as long as that is cheap: the place from which on they are right, if none is wrong.
-fn test_plain(s: &[u8], ranks: &[u8], table: &[u16]) -> Option<usize>
-    requires { Ranks ranks.now × (length s.now ≤ length table.now) }
-    ensures { MatchOption result ((wrong : ℕ) × TestedTo (ranked ranks.now s.now) table.now wrong true) (λ left. TestedTo (ranked ranks.now s.now) table.now left false) }
+fn test_plain(s: &[u8], ranks: Ranking, table: &[u16]) -> Option<usize>
+    requires { length s.now ≤ length table.now }
+    ensures { MatchOption result ((wrong : ℕ) × TestedTo (ranked ranks.entry.list.now s.now) table.now wrong true) (λ left. TestedTo (ranked ranks.entry.list.now s.now) table.now left false) }
 {
     let mut budget = allowance(s);
     for i in (0..s.len()).rev() {
@@ -35,9 +35,9 @@ fn test_plain(s: &[u8], ranks: &[u8], table: &[u16]) -> Option<usize>
 }
 
 // Whether the entries before `from` are right, with a true memo, where those from there on are.
-fn test_by(s: &[u8], ranks: &[u8], table: &[u16], from: usize, memo: &mut [Kept]) -> bool
-    requires { Ranks ranks.now × (from ≤ length s.now) × EntriesFrom (ranked ranks.now s.now) table.now from × Memo (ranked ranks.now s.now) memo.old }
-    ensures { result ≡ same (take (length s.now) table.now) (lyndon_array (ranked ranks.now s.now)) }
+fn test_by(s: &[u8], ranks: Ranking, table: &[u16], from: usize, memo: &mut [Kept]) -> bool
+    requires { (from ≤ length s.now) × EntriesFrom (ranked ranks.list.now s.now) table.now from × Memo (ranked ranks.list.now s.now) memo.old }
+    ensures { result ≡ same (take (length s.now) table.now) (lyndon_array (ranked ranks.entry.list.now s.now)) }
 {
     for i in (0..from).rev() {
         let l = longest_at(s, ranks, table, i, memo);
@@ -49,18 +49,18 @@ fn test_by(s: &[u8], ranks: &[u8], table: &[u16], from: usize, memo: &mut [Kept]
 }
 
 // The same, with a new memo.
-fn test_rest(s: &[u8], ranks: &[u8], table: &[u16], from: usize) -> bool
-    requires { Ranks ranks.now × (from ≤ length s.now) × EntriesFrom (ranked ranks.now s.now) table.now from }
-    ensures { result ≡ same (take (length s.now) table.now) (lyndon_array (ranked ranks.now s.now)) }
+fn test_rest(s: &[u8], ranks: Ranking, table: &[u16], from: usize) -> bool
+    requires { (from ≤ length s.now) × EntriesFrom (ranked ranks.list.now s.now) table.now from }
+    ensures { result ≡ same (take (length s.now) table.now) (lyndon_array (ranked ranks.entry.list.now s.now)) }
 {
     let mut memo = [Kept::NONE; SLOTS];
     test_by(s, ranks, table, from, &mut memo)
 }
 
 // Whether the first entries of the table are the pattern's Lyndon array.
-pub fn is_lyndon_array(s: &[u8], ranks: &[u8], table: &[u16]) -> bool
-    requires { Ranks ranks.now × (length s.now ≤ length table.now) }
-    ensures { result ≡ same (take (length s.now) table.now) (lyndon_array (ranked ranks.now s.now)) }
+pub fn is_lyndon_array(s: &[u8], ranks: Ranking, table: &[u16]) -> bool
+    requires { length s.now ≤ length table.now }
+    ensures { result ≡ same (take (length s.now) table.now) (lyndon_array (ranked ranks.entry.list.now s.now)) }
 {
     let Some(left) = test_plain(s, ranks, table) else {
         return false;

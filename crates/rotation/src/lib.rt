@@ -3,12 +3,12 @@
 #![tactic(auto)]
 
 ghost use Rattle.std.specs.Prelude.{◌≡◌};
-ghost use Rattle.ranks.specs.Inner.{Ranks};
 ghost use Rattle.ranks.specs.Ranks.{ranked};
 ghost use Rattle.words.specs.Rotation.{least_rotation, repeated};
 
 use rotation_round::compare_round;
 use scan::groups;
+use symbols::Ranking;
 
 // What the doubled pattern shows of the pattern. No Option: a repeated pattern has its start too, which `least_start` promises.
 #[derive(Clone, Copy)]
@@ -19,9 +19,8 @@ pub struct Least {
 
 // The smallest start of a least rotation: that of the first group that nothing smaller than its word follows. The pattern is a shorter word
 // repeated exactly when that word is shorter, comes once more, and fills the pattern so.
-pub fn least_start(s: &[u8], ranks: &[u8]) -> Least
-    requires { Ranks ranks.now }
-    ensures { (result.start ≡ least_rotation (ranked ranks.now s.now)) × (result.repeated ≡ repeated (ranked ranks.now s.now)) }
+pub fn least_start(s: &[u8], ranks: Ranking) -> Least
+    ensures { (result.start ≡ least_rotation (ranked ranks.entry.list.now s.now)) × (result.repeated ≡ repeated (ranked ranks.entry.list.now s.now)) }
 {
     let n = s.len();
     for g in groups(s, ranks, 0) {

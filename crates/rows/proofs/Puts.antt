@@ -1,14 +1,13 @@
--- How text goes into a buffer from a place on: part by part, byte by byte, and the last byte first.
+-- How text goes into a buffer from a place on: byte by byte, and the last byte first.
 use mathlib.Core.List.{List, [], ◌∷◌, ◌++◌, append_assoc}
 use mathlib.Core.Path.{◌≡◌, refl, sym, ap, ◌∙◌}
 use Prim.Native.Nat.{ℕ, suc, ◌+◌, ◌≤◌, ◌<◌}
 use native.Mathlib.Numerals.{add-one}
 use native.Mathlib.Omega.{arith}
-use lib.ListN.{length, take, drop, get_or, set, length-append, length-take, length-drop, take-append-drop, drop_of_length-le}
+use lib.ListN.{length, take, drop, get_or, set, length-append, length-drop, take-append-drop, drop_of_length-le}
 use lib.Seq.{drop-cons, drop-drop, drop_at, length-take-le, set_split, take-set-le}
 use Rattle.rows.specs.Row.{written_at}
-use Rattle.rows.proofs.Wrote.{Wrote, wrote_one, wrote_room, wrote_all, wrote_count, set_written}
-use Rattle.rows.proofs.Written.{written_append}
+use Rattle.rows.proofs.Wrote.{Wrote, wrote_one, wrote_room, wrote_all, wrote_count}
 use Rattle.rows.specs.Written.{Room, Puts}
 
 -- the buffer while `out` is put into d from place i on: n is the next place, and `rest` is left
@@ -48,21 +47,6 @@ putting_all {out} {d} {b} {i} {n} h w =
           wrote_all w ∙ append_assoc (take i d) out (drop (length (take i d ++ out)) d)
           ∙ ap (λ u. take i d ++ (out ++ u)) (ap (λ k. drop k d) m ∙ sym (drop-drop (length out) i d));
     }
-
--- one part behind another
-puts_length : {xs d b : List ℕ} {i n : ℕ} → Puts xs i d b n → Room xs i d → length b ≡ length d
-puts_length p h = ap length p.leaves ∙ simp (length-append, length-take, length-drop) (omega arith)
-
-pub puts_then : {xs ys d b b' : List ℕ} {i n m : ℕ} → Puts xs i d b n → Puts ys n b b' m → Room xs i d → Puts (xs ++ ys) i d b' m
-puts_then {xs} {ys} {d} {b} {b'} {i} p q h =
-    record {
-      next = omega (arith, p.next, q.next, length-append xs ys);
-      leaves = q.leaves ∙ rw (p.next, p.leaves) (written_append i xs ys d h);
-    }
-
-pub puts_byte : {xs d b : List ℕ} {i n : ℕ} (x : ℕ) → Puts xs i d b n → i + length xs < length d → Puts (xs ++ (x ∷ [])) i d (set b n x) (n + 1)
-puts_byte {xs} {d} {b} {i} {n} x p h =
-    puts_then p (record { next = refl; leaves = set_written b n x (omega (arith, p.next, puts_length p (omega arith))) }) (omega arith)
 
 -- the last byte first
 pub written_last : (i : ℕ) (xs : List ℕ) (x : ℕ) (d : List ℕ) → i + length xs < length d

@@ -4,14 +4,12 @@
 
 ghost use Rattle.std.specs.Iterator.{YieldsFirstBy, item_count};
 ghost use Rattle.std.specs.Prelude.{◌≡◌, ◌<◌, ◌≤◌, length};
-ghost use Rattle.ranks.specs.Inner.{Ranks};
 ghost use Rattle.ranks.specs.Ranks.{ranked};
-ghost use Rattle.scan.specs.Known.{ranks_prop};
 ghost use Rattle.words.specs.Tables.{suffix_groups};
 ghost use Rattle.scan.specs.Group.{NextGroup, GroupFrom, group_of};
 
 use leaps::{leap, next_gap};
-use symbols::below;
+use symbols::Ranking;
 
 // A stretch of equal neighbouring factors: the length of one, and how many there are.
 #[derive(Clone, Copy)]
@@ -21,9 +19,9 @@ pub struct Stretch {
 }
 
 // The group of factors that starts at i, where i is the start of a group.
-pub fn next_group(s: &[u8], ranks: &[u8], i: usize) -> Stretch
-    requires { Ranks ranks.now × (i < length s.now) }
-    ensures { NextGroup (ranked ranks.now s.now) i result.length result.power }
+pub fn next_group(s: &[u8], ranks: Ranking, i: usize) -> Stretch
+    requires { i < length s.now }
+    ensures { NextGroup (ranked ranks.entry.list.now s.now) i result.length result.power }
 {
     let n = s.len();
     let mut p = 1;
@@ -36,7 +34,7 @@ pub fn next_group(s: &[u8], ranks: &[u8], i: usize) -> Stretch
             let x = s[k - p];
             let y = s[k];
             if x != y {
-                if below(ranks, y, x) {
+                if ranks.below(y, x) {
                     let power = (k - i) / p;
                     return Stretch { length: p, power };
                 }
@@ -54,9 +52,8 @@ pub fn next_group(s: &[u8], ranks: &[u8], i: usize) -> Stretch
 
 // The group that starts at a place; at the end of the pattern and behind it, where none does, zeros.
 // Zeros and no Option: the listing prints just these in its line for the end.
-pub fn group_from(s: &[u8], ranks: &[u8], i: usize) -> Stretch
-    requires { Ranks ranks.now }
-    ensures { GroupFrom (ranked ranks.now s.now) i result.length result.power }
+pub fn group_from(s: &[u8], ranks: Ranking, i: usize) -> Stretch
+    ensures { GroupFrom (ranked ranks.entry.list.now s.now) i result.length result.power }
 {
     if i < s.len() {
         return next_group(s, ranks, i);
@@ -79,16 +76,15 @@ pub struct GroupAt {
 #[derive(Drop)]
 pub struct GroupsLeft<'a> {
     s: &'a [u8],
-    ranks: &'a [u8],
+    ranks: Ranking<'a>,
     at: usize,
-    pub ghost known: { Ranks ranks.now } by { ranks_prop ranks.now },
     pub ghost within: { at ≤ length s.now },
 }
 
 // The groups of a pattern from a place on.
-pub fn groups<'a>(s: &'a [u8], ranks: &'a [u8], from: usize) -> GroupsLeft<'a>
-    requires { Ranks ranks.now × (from ≤ length s.now) }
-    ensures { (result.s.now ≡ s.now) × (result.ranks.now ≡ ranks.now) × (result.at ≡ from) }
+pub fn groups<'a>(s: &'a [u8], ranks: Ranking<'a>, from: usize) -> GroupsLeft<'a>
+    requires { from ≤ length s.now }
+    ensures { (result.s.now ≡ s.now) × (result.ranks.list.now ≡ ranks.entry.list.now) × (result.at ≡ from) }
 {
     GroupsLeft { s, ranks, at: from }
 }
@@ -96,9 +92,9 @@ pub fn groups<'a>(s: &'a [u8], ranks: &'a [u8], from: usize) -> GroupsLeft<'a>
 impl<'a> Iterator for GroupsLeft<'a> {
     type Item = GroupAt;
 
-    ghost next_gives = { YieldsFirstBy (λ g. group_of g.start g.length g.power) (λ it. suffix_groups (ranked it.ranks.now it.s.now) it.at) };
+    ghost next_gives = { YieldsFirstBy (λ g. group_of g.start g.length g.power) (λ it. suffix_groups (ranked it.ranks.list.now it.s.now) it.at) };
 
-    ghost remaining = { item_count (λ it. suffix_groups (ranked it.ranks.now it.s.now) it.at) };
+    ghost remaining = { item_count (λ it. suffix_groups (ranked it.ranks.list.now it.s.now) it.at) };
 
     #[inline(always)]
     fn next(&mut self) -> Option<GroupAt> {

@@ -3,7 +3,6 @@
 #![tactic(auto)]
 
 ghost use Rattle.std.specs.Prelude.{cond, ◌≡◌, ◌+◌, ◌≤◌, ◌<◌, ltb, length};
-ghost use Rattle.ranks.specs.Inner.{Ranks};
 ghost use Rattle.ranks.specs.Ranks.{ranked};
 ghost use Rattle.seams.specs.Seams.{Accepted, Planned};
 ghost use Rattle.seams.specs.Survey.{Surveyed, inside_of};
@@ -12,6 +11,7 @@ use cuts::{Ends, ends_with, start_with, stored_ends};
 use longest::{Longest, better, first_run};
 use scan::groups;
 use splicing::Edit;
+use symbols::Ranking;
 
 // One more where a place lies between two others.
 fn counted(count: usize, low: usize, high: usize, end: usize) -> usize
@@ -38,9 +38,9 @@ struct Overview {
 }
 
 // The pass: `end` is where the stored factors before the edit end, q where the block does.
-fn survey(t: &[u8], ranks: &[u8], end: usize, from: usize, q: usize) -> Overview
-    requires { Ranks ranks.now × (q ≤ length t.now) × (length t.now ≤ 65535) }
-    ensures { Surveyed (ranked ranks.now t.now) end from q result }
+fn survey(t: &[u8], ranks: Ranking, end: usize, from: usize, q: usize) -> Overview
+    requires { (q ≤ length t.now) × (length t.now ≤ 65535) }
+    ensures { Surveyed (ranked ranks.entry.list.now t.now) end from q result }
 {
     let mut ends = Ends { count: 0, end: 0 };
     let mut place = 0;
@@ -98,11 +98,11 @@ fn groups_between(end: usize, place: usize, inner: usize) -> usize
 }
 
 // Where the parts of the edited pattern t meet; for `edit`.
-pub fn plan(edit: Edit, ranks: &[u8], table: &[u16], t: &[u8]) -> Parts
-    requires { Ranks ranks.now × Accepted (ranked ranks.now edit.pattern.now) table.now edit.from edit.to (ranked ranks.now edit.block.now) (ranked ranks.now t.now) }
-    ensures { Planned (ranked ranks.now edit.entry.pattern.now) edit.entry.from edit.entry.to (ranked ranks.now edit.entry.block.now) (ranked ranks.now t.now) result }
+pub fn plan(edit: Edit, ranks: Ranking, table: &[u16], t: &[u8]) -> Parts
+    requires { Accepted (ranked ranks.list.now edit.pattern.now) table.now edit.from edit.to (ranked ranks.list.now edit.block.now) (ranked ranks.list.now t.now) }
+    ensures { Planned (ranked ranks.entry.list.now edit.entry.pattern.now) edit.entry.from edit.entry.to (ranked ranks.entry.list.now edit.entry.block.now) (ranked ranks.entry.list.now t.now) result }
 {
-    let stored = stored_ends(edit.pattern, ranks, table, edit.from);
+    let stored = stored_ends(edit.pattern, ranks.list, table, edit.from);
     let q = edit.from + edit.block.len();
     let seen = survey(t, ranks, stored.end, edit.from, q);
     let ends = seen.ends;

@@ -3,6 +3,7 @@ use crate::calls::OLD;
 use edit::{Counts, MAX_MIDDLE};
 use edit_core::core;
 use refusals::{MAX_PATTERN, Refusal};
+use splicing::Edit;
 use std::io;
 
 fn answer(rt: &impl Print, a: Result<Counts, Refusal>) -> io::Result<()> {
@@ -17,7 +18,7 @@ fn answer(rt: &impl Print, a: Result<Counts, Refusal>) -> io::Result<()> {
     crate::number(rt, b"starts", counts.starts as u64)
 }
 
-// The values of an edit stand side by side, as `edit_core::core` takes them.
+// The values of an edit stand side by side, as in the public call, so that a case is one line.
 pub fn edit_with(
     rt: &impl Print,
     pattern: &[u8],
@@ -42,9 +43,13 @@ pub fn edit_with(
     let middle = &mut space[..3 * room];
     let mut more = [OLD; MAX_PATTERN];
     let starts = &mut more[..places.min(MAX_PATTERN)];
-    let a = core(
-        pattern, order, array, last, from, to, block, room, middle, starts,
-    );
+    let edit = Edit {
+        pattern,
+        from,
+        to,
+        block,
+    };
+    let a = core(edit, order, array, last, room, middle, starts);
     answer(rt, a)?;
     crate::row(rt, b"middle", middle)?;
     crate::row(rt, b"places", starts)?;

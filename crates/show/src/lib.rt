@@ -96,7 +96,7 @@ pub fn content(rt: &impl Print, s: &[u8]) -> io::Result<()> {
 
 // The order of a call. Byte order goes without saying: `test_order` hands down none of its ranks.
 pub fn order(rt: &impl Print, ranks: &[u8]) -> io::Result<()> {
-    if test_order(ranks).is_ok_and(|used| used.is_empty()) {
+    if test_order(ranks).is_ok_and(|used| used.list.is_empty()) {
         return Ok(());
     }
     text(rt, b" order")?;

@@ -5,32 +5,25 @@ use Prim.Native.Nat.{ℕ, ◌+◌, ◌-◌, ◌≤◌}
 use native.Mathlib.Omega.{arith}
 use lib.ListN.{length, take, drop, length-append, length-drop}
 use lib.Seq.{take_all, take_at, length-take-le}
-use Rattle.rows.specs.Row.{written, written_at}
-use Rattle.rows.proofs.Written.{written_append}
+use Rattle.rows.specs.Row.{written}
+use Rattle.rows.specs.Written.{Fits, Writes}
+use Rattle.rows.specs.declared.Writer.{Writer}
+use Rattle.rows.proofs.Writing.{writes_then}
 use Rattle.words.specs.Edit.{edited}
 use Rattle.words.proofs.Edit.{length_edited}
 
 -- the three parts of the edited pattern, one copied behind the other
-module _ (s : List ℕ) (from to : ℕ) (b t : List ℕ) (h : from ≤ length s) (k : from + length b + (length s - to) ≤ length t) where
-  front : length (take from s) ≡ from
-  front = length-take-le from s h
-
-  spliced_front : written_at from b (written_at 0 (take from s) t) ≡ written (take from s ++ b) t
-  spliced_front =
-      let e : from ≡ 0 + length (take from s) = omega (arith, front) in
-      ap (λ i. written_at i b (written_at 0 (take from s) t)) e ∙ written_append 0 (take from s) b t (omega (arith, front))
-
-  pub spliced : {t₁ t₂ t₃ : List ℕ} → t₁ ≡ written_at 0 (take from s) t → t₂ ≡ written_at from b t₁
-      → t₃ ≡ written_at (from + length b) (take (length s - to) (drop to s)) t₂ → t₃ ≡ written (edited s from to b) t
-  unfolding edited
-  spliced first second third =
-      let n = length-append (take from s) b in
-      let m = length-drop to s in
-      let e : from + length b ≡ 0 + length (take from s ++ b) = omega (arith, front) in
-      third ∙ ap (written_at (from + length b) (take (length s - to) (drop to s))) (second ∙ ap (written_at from b) first ∙ spliced_front)
-      ∙ ap (λ u. written_at (from + length b) u (written (take from s ++ b) t)) (take_all (length s - to) (drop to s) (omega arith))
-      ∙ ap (λ i. written_at i (drop to s) (written (take from s ++ b) t)) e
-      ∙ written_append 0 (take from s ++ b) (drop to s) t (omega (arith, front)) ∙ ap (λ u. written u t) (append_assoc (take from s) b (drop to s))
+pub spliced : (s : List ℕ) (from to : ℕ) (b : List ℕ) {w w₁ w₂ w₃ : Writer} → Fits (edited s from to b) w → Writes (take from s) w w₁ → Writes b w₁ w₂
+    → Writes (take (length s - to) (drop to s)) w₂ w₃ → Writes (edited s from to b) w w₃
+unfolding edited
+spliced s from to b fits p q r =
+    let n = length-append (take from s) b in
+    let m = length-append (take from s) (b ++ drop to s) in
+    let k = length-append b (drop to s) in
+    let e : (take from s ++ b) ++ take (length s - to) (drop to s) ≡ take from s ++ (b ++ drop to s) =
+    append_assoc (take from s) b (take (length s - to) (drop to s))
+    ∙ ap (λ u. take from s ++ (b ++ u)) (take_all (length s - to) (drop to s) (omega (arith, length-drop to s))) in
+    rw e at (writes_then (writes_then p q (omega (arith, fits, m))) r (omega (arith, fits, n, m, k)))
 
 -- the edited pattern in the front of the row to which it was spliced
 module _ (s : List ℕ) (from to : ℕ) (b : List ℕ) (h : from ≤ to) (l : to ≤ length s) (row : List ℕ) {row' : List ℕ}

@@ -4,22 +4,21 @@
 
 ghost use Rattle.std.specs.Iterator.{YieldsFirstBy, item_count};
 ghost use Rattle.std.specs.Prelude.{◌≡◌, ◌*◌, ◌<◌, ◌≤◌, length, take};
-ghost use Rattle.ranks.specs.Inner.{Ranks};
 ghost use Rattle.ranks.specs.Ranks.{ranked};
 ghost use Rattle.rows.specs.Row.{written};
 ghost use Rattle.scan.specs.Group.{NextGroup, group_of};
-ghost use Rattle.scan.specs.Known.{ranks_prop};
 ghost use Rattle.words.specs.Factors.{group_numbers};
 ghost use Rattle.words.specs.Tables.{lyndon_array, suffix_groups};
 
 use comparing::agree;
 use factoring::write_group;
 use scan::{GroupAt, Stretch};
+use symbols::Ranking;
 
 // The group of factors that starts at i.
-fn group_at(s: &[u8], ranks: &[u8], table: &[u16], i: usize) -> Stretch
-    requires { Ranks ranks.now × (i < length s.now) × (take (length s.now) table.now ≡ lyndon_array (ranked ranks.now s.now)) }
-    ensures { NextGroup (ranked ranks.now s.now) i result.length result.power }
+fn group_at(s: &[u8], ranks: Ranking, table: &[u16], i: usize) -> Stretch
+    requires { (i < length s.now) × (take (length s.now) table.now ≡ lyndon_array (ranked ranks.list.now s.now)) }
+    ensures { NextGroup (ranked ranks.entry.list.now s.now) i result.length result.power }
 {
     let n = s.len();
     let length = table[i] as usize;
@@ -45,18 +44,22 @@ fn group_at(s: &[u8], ranks: &[u8], table: &[u16], i: usize) -> Stretch
 #[derive(Drop)]
 struct GroupsAlong<'a> {
     s: &'a [u8],
-    ranks: &'a [u8],
+    ranks: Ranking<'a>,
     table: &'a [u16],
     at: usize,
-    ghost known: { Ranks ranks.now } by { ranks_prop ranks.now },
-    ghost array: { take (length s.now) table.now ≡ lyndon_array (ranked ranks.now s.now) },
+    ghost array: { take (length s.now) table.now ≡ lyndon_array (ranked ranks.list.now s.now) },
     ghost within: { at ≤ length s.now },
 }
 
 // The groups from a place on.
-fn groups_along<'a>(s: &'a [u8], ranks: &'a [u8], table: &'a [u16], start: usize) -> GroupsAlong<'a>
-    requires { Ranks ranks.now × (take (length s.now) table.now ≡ lyndon_array (ranked ranks.now s.now)) }
-    ensures { (result.s.now ≡ s.now) × (result.ranks.now ≡ ranks.now) × (suffix_groups (ranked ranks.now s.now) result.at ≡ suffix_groups (ranked ranks.now s.now) start) }
+fn groups_along<'a>(
+    s: &'a [u8],
+    ranks: Ranking<'a>,
+    table: &'a [u16],
+    start: usize,
+) -> GroupsAlong<'a>
+    requires { take (length s.now) table.now ≡ lyndon_array (ranked ranks.list.now s.now) }
+    ensures { (result.s.now ≡ s.now) × (result.ranks.list.now ≡ ranks.entry.list.now) × (suffix_groups (ranked ranks.entry.list.now s.now) result.at ≡ suffix_groups (ranked ranks.entry.list.now s.now) start) }
 {
     let at = start.min(s.len());
     GroupsAlong {
@@ -70,9 +73,9 @@ fn groups_along<'a>(s: &'a [u8], ranks: &'a [u8], table: &'a [u16], start: usize
 impl<'a> Iterator for GroupsAlong<'a> {
     type Item = GroupAt;
 
-    ghost next_gives = { YieldsFirstBy (λ g. group_of g.start g.length g.power) (λ it. suffix_groups (ranked it.ranks.now it.s.now) it.at) };
+    ghost next_gives = { YieldsFirstBy (λ g. group_of g.start g.length g.power) (λ it. suffix_groups (ranked it.ranks.list.now it.s.now) it.at) };
 
-    ghost remaining = { item_count (λ it. suffix_groups (ranked it.ranks.now it.s.now) it.at) };
+    ghost remaining = { item_count (λ it. suffix_groups (ranked it.ranks.list.now it.s.now) it.at) };
 
     #[inline(always)]
     fn next(&mut self) -> Option<GroupAt> {
@@ -91,18 +94,18 @@ impl<'a> Iterator for GroupsAlong<'a> {
 }
 
 // The number of groups from a place on.
-pub fn count_suffix(s: &[u8], ranks: &[u8], table: &[u16], start: usize) -> usize
-    requires { Ranks ranks.now × (take (length s.now) table.now ≡ lyndon_array (ranked ranks.now s.now)) }
-    ensures { result ≡ length (suffix_groups (ranked ranks.now s.now) start) }
+pub fn count_suffix(s: &[u8], ranks: Ranking, table: &[u16], start: usize) -> usize
+    requires { take (length s.now) table.now ≡ lyndon_array (ranked ranks.list.now s.now) }
+    ensures { result ≡ length (suffix_groups (ranked ranks.entry.list.now s.now) start) }
 {
     groups_along(s, ranks, table, start).count()
 }
 
 // Writes the groups from a place on, three numbers each.
-pub fn write_suffix(s: &[u8], ranks: &[u8], table: &[u16], start: usize, row: &mut [u16])
-    requires { Ranks ranks.now × (length s.now ≤ 65535) × (take (length s.now) table.now ≡ lyndon_array (ranked ranks.now s.now))
-        × (3 * length (suffix_groups (ranked ranks.now s.now) start) ≤ length row.old) }
-    ensures { row.new ≡ written (group_numbers (suffix_groups (ranked ranks.now s.now) start)) row.old }
+pub fn write_suffix(s: &[u8], ranks: Ranking, table: &[u16], start: usize, row: &mut [u16])
+    requires { (length s.now ≤ 65535) × (take (length s.now) table.now ≡ lyndon_array (ranked ranks.list.now s.now))
+        × (3 * length (suffix_groups (ranked ranks.list.now s.now) start) ≤ length row.old) }
+    ensures { row.new ≡ written (group_numbers (suffix_groups (ranked ranks.entry.list.now s.now) start)) row.old }
 {
     let mut at = 0;
     for g in groups_along(s, ranks, table, start) {

@@ -1,21 +1,20 @@
--- The last number of a line as its writer makes it: the comma, the number, the line end.
-use mathlib.Core.List.{List}
-use mathlib.Core.Path.{refl}
-use Prim.Native.Nat.{ℕ, ◌+◌}
+-- The fields of a line as their writers make them: a number and a comma, and the comma, the number and the line end.
+use mathlib.Core.List.{◌++◌}
+use Prim.Native.Nat.{ℕ}
 use native.Mathlib.Omega.{arith}
-use lib.ListN.{set, length-append}
-use Rattle.rows.specs.Written.{Room, Puts}
-use Rattle.rows.proofs.Puts.{puts_then}
-use Rattle.rows.proofs.Wrote.{set_written}
+use lib.ListN.{length-append}
+use Rattle.rows.specs.Written.{Fits, Writes}
+use Rattle.rows.specs.declared.Writer.{Writer}
+use Rattle.rows.proofs.Writing.{writes_then}
 use Rattle.decimal.specs.Decimal.{codes, decimal}
-use Rattle.decimal.proofs.Decimal.{length_decimal}
-use Rattle.text.specs.Listing.{line_end, last_field}
-use Rattle.text.proofs.Lengths.{length_last}
+use Rattle.text.specs.Listing.{line_end, field, last_field}
 
-pub last_put : (number : ℕ) (d : List ℕ) (i : ℕ) {b₁ b₂ : List ℕ} {n₁ n₂ : ℕ} → Room (last_field number) i d
-    → Puts (decimal number) (i + 1) (set d i 44) b₁ n₁ → Puts line_end n₁ b₁ b₂ n₂ → Puts (last_field number) i d b₂ n₂
-last_put number d i h p₁ p₂ =
-    let n = length_last number in
-    let comma : Puts (codes ",") i d (set d i 44) (i + 1) = record { next = refl; leaves = set_written d i 44 (omega arith) } in
-    let m = length-append (codes ",") (decimal number) in
-    puts_then (puts_then comma p₁ (omega arith)) p₂ (omega (arith, length_decimal number))
+module _ (n : ℕ) {w w₁ w₂ : Writer} where
+  pub field_put : Fits (field n) w → Writes (decimal n) w w₁ → Writes (codes ",") w₁ w₂ → Writes (field n) w w₂
+  field_put h p q = writes_then p q (omega (arith, h, length-append (decimal n) (codes ",")))
+
+  pub last_put : {w₃ : Writer} → Fits (last_field n) w → Writes (codes ",") w w₁ → Writes (decimal n) w₁ w₂ → Writes line_end w₂ w₃ → Writes (last_field n) w w₃
+  last_put h p q r =
+      let m = length-append (codes "," ++ decimal n) line_end in
+      let k = length-append (codes ",") (decimal n) in
+      writes_then (writes_then p q (omega (arith, h))) r (omega (arith, h))

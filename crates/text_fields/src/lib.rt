@@ -4,46 +4,44 @@
 
 ghost use Rattle.text.specs.Hexadecimal.{hexadecimal};
 ghost use Rattle.text.specs.Listing.{field, last_field};
-ghost use Rattle.rows.specs.Written.{Room, Puts};
+ghost use Rattle.rows.specs.Written.{Fits, Writes};
 
 use decimal::write_decimal;
 use hex_digits::{digit_list, pair_of};
-use rows::write_bytes;
+use rows::Writer;
 
 const LINE_END: [u8; 2] = *b"\r\n";
 
 // Writes the bytes of a word in hexadecimal.
-pub fn write_word(word: &[u8], buffer: &mut [u8], at: usize) -> usize
-    requires { Room (hexadecimal word.now) at buffer.old }
-    ensures { Puts (hexadecimal word.now) at buffer.old buffer.new result }
+pub fn write_word(word: &[u8], out: &mut Writer)
+    requires { Fits (hexadecimal word.now) out.old }
+    ensures { Writes (hexadecimal word.now) out.old out.new }
 {
     let digits = digit_list();
-    let mut next = at;
     for &byte in word {
-        let pair = pair_of(&digits, byte as usize);
-        buffer[next] = pair[0];
-        buffer[next + 1] = pair[1];
-        next += 2;
+        let [high, low] = pair_of(&digits, byte as usize);
+        out.byte(high);
+        out.byte(low);
     }
-    next
 }
 
 // Writes a number and the comma behind it.
-pub fn write_field(n: usize, buffer: &mut [u8], at: usize) -> usize
-    requires { Room (field n) at buffer.old }
-    ensures { Puts (field n) at buffer.old buffer.new result }
+#[tactic(auto, using(text::proofs::Lengths::length_field))]
+pub fn write_field(n: usize, out: &mut Writer)
+    requires { Fits (field n) out.old }
+    ensures { Writes (field n) out.old out.new }
 {
-    let end = write_decimal(n, buffer, at);
-    buffer[end] = b',';
-    end + 1
+    write_decimal(n, out);
+    out.byte(b',');
 }
 
 // Writes the last number of a line, the comma before it and the line end behind it.
-pub fn write_last(n: usize, buffer: &mut [u8], at: usize) -> usize
-    requires { Room (last_field n) at buffer.old }
-    ensures { Puts (last_field n) at buffer.old buffer.new result }
+#[tactic(auto, using(text::proofs::Lengths::length_last, decimal::proofs::Decimal::length_decimal))]
+pub fn write_last(n: usize, out: &mut Writer)
+    requires { Fits (last_field n) out.old }
+    ensures { Writes (last_field n) out.old out.new }
 {
-    buffer[at] = b',';
-    let end = write_decimal(n, buffer, at + 1);
-    write_bytes(&LINE_END, buffer, end)
+    out.byte(b',');
+    write_decimal(n, out);
+    out.bytes(&LINE_END);
 }

@@ -3,26 +3,26 @@
 #![tactic(auto)]
 
 ghost use Rattle.std.specs.Prelude.{◌≡◌, ◌+◌, ◌*◌, ◌≤◌, length, take, drop};
-ghost use Rattle.ranks.specs.Inner.{Ranks};
 ghost use Rattle.ranks.specs.Ranks.{ranked};
 ghost use Rattle.rows.specs.Row.{written_at};
 ghost use Rattle.words.specs.Tables.{LyndonAt};
 ghost use Rattle.words.specs.Tree.{tree_nodes, node_numbers};
 
 use factoring::last_factor;
+use symbols::Ranking;
 
 // Writes the nodes of the part of this start and length from place `at` of the row on, and answers the place after them.
 pub fn write_nodes(
     word: &[u8],
-    ranks: &[u8],
+    ranks: Ranking,
     start: usize,
     size: usize,
     row: &mut [u16],
     at: usize,
 ) -> usize
-    requires { Ranks ranks.now × LyndonAt (ranked ranks.now word.now) size start × (length word.now ≤ 65535) × (at + 4 * size ≤ length row.old + 2) }
+    requires { LyndonAt (ranked ranks.list.now word.now) size start × (length word.now ≤ 65535) × (at + 4 * size ≤ length row.old + 2) }
     ensures { (result + 2 ≡ at + 4 * size)
-        × (row.new ≡ written_at at (node_numbers (tree_nodes start (take size (drop start (ranked ranks.now word.now))))) row.old) }
+        × (row.new ≡ written_at at (node_numbers (tree_nodes start (take size (drop start (ranked ranks.entry.list.now word.now))))) row.old) }
 {
     row[at] = start as u16;
     row[at + 1] = size as u16;

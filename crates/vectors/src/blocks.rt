@@ -2,7 +2,6 @@
 // written as blocks and read again. A long block is made of `a`s; the digest tells its bytes apart.
 ghost use Rattle.std.specs.Prelude.{◌≡◌, ◌≤◌, ◌<◌, length};
 
-use rows::write_bytes;
 use show::calls;
 use show::calls::{BLANK, BUFFER};
 use std::io;
@@ -60,9 +59,10 @@ fn long(rt: &impl Print, header: &[u8], place: usize, end: &[u8]) -> io::Result<
     requires { (length header.now ≤ 11) × (place ≤ 16396) × (length end.now ≤ 2) }
 {
     let mut space = [b'a'; SPACE];
-    write_bytes(header, &mut space, 0);
-    let size = write_bytes(end, &mut space, place);
-    calls::read_block(rt, &space[0..size])
+    let size = place + end.len();
+    space[..header.len()].copy_from_slice(header);
+    space[place..size].copy_from_slice(end);
+    calls::read_block(rt, &space[..size])
 }
 
 // A block whose bytes should end at this place: one byte short, exact, four times with bytes behind them, and with a line feed as the last byte.

@@ -5,4 +5,4 @@ use Rattle.above.proofs.above_block.Goals as goal
 pub returns : goal.returns
 returns c =
     let a = c.args in
-    record { yes = λ t e. rw (none_ranked a.ranks.now a.s.now e, rank_value a.ranks.now a.c e) (c.above_bytes.ensures t) }
+    record { yes = λ t e. rw (none_ranked a.ranks.list.now a.s.now e, rank_value a.ranks.list.now a.c e) (c.above_bytes.ensures t) }

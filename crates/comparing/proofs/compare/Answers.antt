@@ -9,10 +9,10 @@ returns-then-k-min c =
     let x = c.rank_of-x in
     let y = c.rank_of-y in
     rw c.cmp.ensures
-    (compared_differ c.args.ranks.now c.args.a.now c.args.b.now r.result r.ensures c.requires (omega arith) (omega arith) x.result y.result
+    (compared_differ c.args.ranks.list.now c.args.a.now c.args.b.now r.result r.ensures c.args.ranks.known (omega arith) (omega arith) x.result y.result
     x.ensures.0 y.ensures.0 x.ensures.1 y.ensures.1)
 
 pub returns : goal.returns
 returns c =
     let r = c.shared_bytes-k in
-    rw c.cmp-2.ensures (compared_ends c.args.ranks.now c.args.a.now c.args.b.now r.result r.ensures (omega arith))
+    rw c.cmp-2.ensures (compared_ends c.args.ranks.list.now c.args.a.now c.args.b.now r.result r.ensures (omega arith))

@@ -1,6 +1,5 @@
 -- `edit_core::core` meets its contract: refused by 13, or answered by the ranks that are handed down.
 use lib.ListN.{length}
-use native.Mathlib.Omega.{arith}
 use Rattle.std.proofs.lemmas.Result.{err_from_is_err_and}
 use Rattle.edit.specs.Core.{all_refusals}
 use Rattle.ranks.specs.Ranks.{ranked}
@@ -14,11 +13,11 @@ returns-in_err-ranks c =
     let (e, wrong) = c.in_err-ranks.ensures.refused in
     let p = err_from_is_err_and c.from_residual.result c.from_residual.ensures.1 in
     rw (p.1, p.2, e)
-    (fills_not_order o (all_refusals (ranked o a.pattern.now) a.array.now a.last.now a.from a.to (ranked o a.block.now) a.room (length a.starts.now)) wrong)
+    (fills_not_order o (all_refusals (ranked o a.edit.pattern.now) a.array.now a.last.now a.edit.from a.edit.to (ranked o a.edit.block.now) a.room (length a.starts.now)) wrong)
 
 pub returns : goal.returns
 returns c =
     let a = c.args in
-    core_order c.in_ok-ranks.ensures.accepted a.array.now a.last.now a.room a.pattern.now a.block.now
-    (λ i h. omega (arith, c.type_inv.pattern i)) (λ i h. omega (arith, c.type_inv.block i))
+    core_order c.in_ok-ranks.ensures.accepted a.array.now a.last.now a.room a.edit.pattern.now a.edit.block.now
+    a.edit.pattern_bytes a.edit.block_bytes
     c.ranked_core.ensures

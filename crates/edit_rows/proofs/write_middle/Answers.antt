@@ -15,14 +15,14 @@ use Rattle.edit_rows.proofs.write_middle.Goals as goal
 pub loop-g-init : goal.loop-g-init
 loop-g-init c =
     let a = c.args in
-    let t = ranked a.ranks.now a.t.now in
+    let t = ranked a.ranks.list.now a.t.now in
     let gs = suffix_groups t a.end in
     let it = c.into_iter-g-iterator.result in
-    let e : suffix_groups (ranked it.ranks.now it.s.now) it.at ≡ gs = cc in (
-      record { at = a.end; fits = omega (arith, length_ranked a.ranks.now a.t.now); is = e },
-      rw e (wrote_none (group_numbers gs) a.numbers.now (omega (arith, length_numbers gs, c.requires.3))),
-      list_none t a.end a.size a.at a.starts.now c.requires.4,
-      length_ranked a.ranks.now a.t.now,
+    let e : suffix_groups (ranked it.ranks.list.now it.s.now) it.at ≡ gs = cc in (
+      record { at = a.end; fits = omega (arith, length_ranked a.ranks.list.now a.t.now); is = e },
+      rw e (wrote_none (group_numbers gs) a.numbers.now (omega (arith, length_numbers gs, c.requires.2))),
+      list_none t a.end a.size a.at a.starts.now c.requires.3,
+      length_ranked a.ranks.list.now a.t.now,
     )
 
 pub write_group-requires : goal.write_group-requires
@@ -36,7 +36,7 @@ pub write_run-next-requires : goal.write_run-next-requires
 write_run-next-requires c =
     let l = c.loop-g.invariant in
     let t = left_turn l.0 c.in-Some.ensures.steps in
-    (list_room t.group (rw t.place at l.2) (search rules), omega (arith, t.group.fits, c.requires.1, l.3))
+    (list_room t.group (rw t.place at l.2) (search rules), omega (arith, t.group.fits, c.requires.0, l.3))
 
 pub loop-g-preserved-then-g-size : goal.loop-g-preserved-then-g-size
 loop-g-preserved-then-g-size c =
@@ -54,8 +54,8 @@ loop-g-preserved c =
 pub returns : goal.returns
 returns c =
     let a = c.args in
-    let t = ranked a.ranks.now a.t.now in
+    let t = ranked a.ranks.list.now a.t.now in
     let l = c.loop-g.invariant in
     let e = c.in-None.ensures.steps.0 in
-    let listed = list_all t a.end a.size a.at a.starts.now c.requires.4 l.2 (left_end l.0 e) in
+    let listed = list_all t a.end a.size a.at a.starts.now c.requires.3 l.2 (left_end l.0 e) in
     record { next = listed.0; groups = wrote_all (rw e at l.1); places = listed.1 }

@@ -11,8 +11,8 @@ use Rattle.edit_rows.proofs.write_middle.Given as goal
 
 abbrev pub invariant-loop-g : goal.invariant-loop-g
 invariant-loop-g l =
-    let t = ranked l.ranks l.t in
+    let t = ranked l.ranks.list.now l.t in
     let it = l.g-iterator in
-    let gs = suffix_groups (ranked it.ranks.now it.s.now) it.at in
+    let gs = suffix_groups (ranked it.ranks.list.now it.s.now) it.at in
     (left : Left t gs) × Wrote (group_numbers (suffix_groups t l.end)) l.initial.numbers l.numbers l.k (group_numbers gs)
     × Listed t l.end l.size l.at l.initial.starts l.starts l.next left.at × (length t ≡ length l.t)

@@ -1,9 +1,8 @@
 -- `edited_text::write_edited` meets its contract: the row holds the edited pattern in its front, and the listing of that is written, which no ranks give.
-use mathlib.Core.List.{[]}
-use mathlib.Core.Path.{refl, ◌∙◌}
+use mathlib.Core.Path.{ap, ◌∙◌}
+use lib.ListN.{length}
 use native.Mathlib.Omega.{arith}
 use Rattle.splicing.proofs.Spliced.{spliced_within, spliced_long, spliced_edited}
-use Rattle.ranks.proofs.Ranked.{no_ranks}
 use Rattle.text_lines.proofs.Lines.{listing_none}
 use Rattle.words.proofs.Edit.{length_edited}
 use Rattle.words.specs.Edit.{edited}
@@ -30,11 +29,11 @@ write_text-requires c =
     let e = c.args.edit in
     let m = c.edited_length-m.ensures ∙ length_edited e.pattern.now e.from e.to e.block.now c.requires.0 c.requires.1 in
     let t = spliced_edited e.pattern.now e.from e.to e.block.now c.requires.0 c.requires.1 _ c.splice.ensures in
-    (no_ranks, rw (m, t, listing_none [] (edited e.pattern.now e.from e.to e.block.now) refl) c.requires.3)
+    rw (m, t, listing_none c.of_bytes.result.list.now (edited e.pattern.now e.from e.to e.block.now) (ap length c.of_bytes.ensures)) c.requires.3
 
 pub returns : goal.returns
 returns c =
     let e = c.args.edit in
     let m = c.edited_length-m.ensures ∙ length_edited e.pattern.now e.from e.to e.block.now c.requires.0 c.requires.1 in
     let t = spliced_edited e.pattern.now e.from e.to e.block.now c.requires.0 c.requires.1 _ c.splice.ensures in
-    rw (m, t, listing_none [] (edited e.pattern.now e.from e.to e.block.now) refl) at c.write_text.ensures
+    rw (m, t, listing_none c.of_bytes.result.list.now (edited e.pattern.now e.from e.to e.block.now) (ap length c.of_bytes.ensures)) at c.write_text.ensures

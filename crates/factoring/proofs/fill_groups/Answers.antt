@@ -14,13 +14,13 @@ use Rattle.factoring.proofs.fill_groups.Goals as goal
 pub loop-g-init : goal.loop-g-init
 loop-g-init c =
     let a = c.args in
-    let s = ranked a.ranks.now a.s.now in
+    let s = ranked a.ranks.list.now a.s.now in
     let gs = suffix_groups s a.from in
     let it = c.into_iter-g-iterator.result in
-    let e : suffix_groups (ranked it.ranks.now it.s.now) it.at ≡ gs = cc in (
-      rw e (left_from s a.from (omega (arith, length_ranked a.ranks.now a.s.now))),
+    let e : suffix_groups (ranked it.ranks.list.now it.s.now) it.at ≡ gs = cc in (
+      rw e (left_from s a.from (omega (arith, length_ranked a.ranks.list.now a.s.now))),
       rw e (wrote_none (group_numbers gs) a.row.now (omega (arith, length_numbers gs))),
-      length_ranked a.ranks.now a.s.now,
+      length_ranked a.ranks.list.now a.s.now,
     )
 
 pub write_group-requires : goal.write_group-requires
@@ -49,4 +49,4 @@ pub returns : goal.returns
 returns c =
     let a = c.args in
     let w = rw c.in-None.ensures.steps.0 at c.loop-g.invariant.1 in
-    (omega (arith, wrote_count w, length_numbers (suffix_groups (ranked a.ranks.now a.s.now) a.from)), wrote_all w)
+    (omega (arith, wrote_count w, length_numbers (suffix_groups (ranked a.ranks.list.now a.s.now) a.from)), wrote_all w)

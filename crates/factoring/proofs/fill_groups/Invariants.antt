@@ -10,7 +10,7 @@ use Rattle.factoring.proofs.fill_groups.Given as goal
 
 abbrev pub invariant-loop-g : goal.invariant-loop-g
 invariant-loop-g l =
-    let s = ranked l.ranks l.s in
+    let s = ranked l.ranks.list.now l.s in
     let it = l.g-iterator in
-    let gs = suffix_groups (ranked it.ranks.now it.s.now) it.at in
+    let gs = suffix_groups (ranked it.ranks.list.now it.s.now) it.at in
     Left s gs × Wrote (group_numbers (suffix_groups s l.from)) l.initial.row l.row l.at (group_numbers gs) × (length s ≡ length l.s)

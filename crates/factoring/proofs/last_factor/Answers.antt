@@ -9,8 +9,8 @@ pub loop-g-init : goal.loop-g-init
 loop-g-init c =
     let a = c.args in
     let it = c.into_iter-g-iterator.result in
-    let e : suffix_groups (ranked it.ranks.now it.s.now) it.at ≡ suffix_groups (ranked a.ranks.now a.s.now) 0 = cc in
-    ap (last_size 0) e ∙ last_start (ranked a.ranks.now a.s.now)
+    let e : suffix_groups (ranked it.ranks.list.now it.s.now) it.at ≡ suffix_groups (ranked a.ranks.list.now a.s.now) 0 = cc in
+    ap (last_size 0) e ∙ last_start (ranked a.ranks.list.now a.s.now)
 
 pub loop-g-preserved : goal.loop-g-preserved
 loop-g-preserved c = sym (ap (last_size c.loop-g.last) c.in-Some.ensures.steps) ∙ c.loop-g.invariant

@@ -9,4 +9,4 @@ use Rattle.factoring.proofs.last_factor.Given as goal
 abbrev pub invariant-loop-g : goal.invariant-loop-g
 invariant-loop-g l =
     let it = l.g-iterator in
-    last_size l.last (suffix_groups (ranked it.ranks.now it.s.now) it.at) ≡ last_length (factors (ranked l.ranks l.s))
+    last_size l.last (suffix_groups (ranked it.ranks.list.now it.s.now) it.at) ≡ last_length (factors (ranked l.ranks.list.now l.s))

@@ -8,6 +8,6 @@ use Rattle.leaps.proofs.leap.Goals as goal
 pub returns-then-p-j : goal.returns-then-p-j
 returns-then-p-j c =
     let r = c.agree_blocks-more.ensures in
-    let e = length_ranked c.args.ranks.now c.args.s.now in
-    let a = agrees_ranked c.args.ranks.now (omega arith) (omega arith) r.1 in
-    (omega arith, leap_same c.requires.1 a (omega (arith, e)))
+    let e = length_ranked c.args.ranks.list.now c.args.s.now in
+    let a = agrees_ranked c.args.ranks.list.now (omega arith) (omega arith) r.1 in
+    (omega arith, leap_same c.requires a (omega (arith, e)))

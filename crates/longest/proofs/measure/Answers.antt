@@ -11,10 +11,10 @@ use Rattle.longest.proofs.measure.Goals as goal
 pub loop-g-init : goal.loop-g-init
 loop-g-init c =
     let a = c.args in
-    let s = ranked a.ranks.now a.s.now in
+    let s = ranked a.ranks.list.now a.s.now in
     let it = c.into_iter-g-iterator.result in
-    let e : suffix_groups (ranked it.ranks.now it.s.now) it.at ≡ suffix_groups s 0 = cc in
-    (record { at = 0; fits = omega arith; is = e }, measured_none s, length_ranked a.ranks.now a.s.now)
+    let e : suffix_groups (ranked it.ranks.list.now it.s.now) it.at ≡ suffix_groups s 0 = cc in
+    (record { at = 0; fits = omega arith; is = e }, measured_none s, length_ranked a.ranks.list.now a.s.now)
 
 pub better-best-requires : goal.better-best-requires
 better-best-requires c =
@@ -32,4 +32,4 @@ pub returns : goal.returns
 returns c =
     let a = c.args in
     let l = c.loop-g.invariant in
-    measured_all (ranked a.ranks.now a.s.now) l.1 (left_end l.0 c.in-None.ensures.steps.0)
+    measured_all (ranked a.ranks.list.now a.s.now) l.1 (left_end l.0 c.in-None.ensures.steps.0)

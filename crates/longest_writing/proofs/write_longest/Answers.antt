@@ -10,22 +10,17 @@ use Rattle.longest_writing.proofs.write_longest.Goals as goal
 
 pub write_run-requires : goal.write_run-requires
 write_run-requires c =
-    (search rules, omega (arith, c.requires.2.fits, c.requires.1, length_ranked c.args.ranks.now c.args.s.now))
+    (search rules, omega (arith, c.requires.1.fits, c.requires.0, length_ranked c.args.ranks.list.now c.args.s.now))
 
 pub write_starts-requires : goal.write_starts-requires
 write_starts-requires c =
-    let p = ranked c.args.ranks.now c.args.s.now in
-    let best = c.requires.2.best in (
-      c.requires.0,
-      search rules,
-      search rules,
-      omega (arith, ap length (starts_longest p best), longest_count p best, c.requires.3),
-    )
+    let p = ranked c.args.ranks.list.now c.args.s.now in
+    let best = c.requires.1.best in (search rules, search rules, omega (arith, ap length (starts_longest p best), longest_count p best, c.requires.2))
 
 pub returns-then-run-found : goal.returns-then-run-found
 returns-then-run-found c =
-    run_written (ranked c.args.ranks.now c.args.s.now) c.requires.2 c.args.row.now (search rules) c.write_run.ensures.1
+    run_written (ranked c.args.ranks.list.now c.args.s.now) c.requires.1 c.args.row.now (search rules) c.write_run.ensures.1
 
 pub returns-else-run-found : goal.returns-else-run-found
 returns-else-run-found c =
-    listed_written (ranked c.args.ranks.now c.args.s.now) c.requires.2 c.args.row.now c.write_starts.ensures.1
+    listed_written (ranked c.args.ranks.list.now c.args.s.now) c.requires.1 c.args.row.now c.write_starts.ensures.1

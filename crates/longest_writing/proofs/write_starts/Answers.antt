@@ -13,12 +13,12 @@ use Rattle.longest_writing.proofs.write_starts.Goals as goal
 pub loop-g-init : goal.loop-g-init
 loop-g-init c =
     let a = c.args in
-    let s = ranked a.ranks.now a.s.now in
+    let s = ranked a.ranks.list.now a.s.now in
     let it = c.into_iter-g-iterator.result in
-    let e : suffix_groups (ranked it.ranks.now it.s.now) it.at ≡ suffix_groups s a.from = cc in (
-      record { at = a.from; fits = omega (arith, length_ranked a.ranks.now a.s.now); is = e },
+    let e : suffix_groups (ranked it.ranks.list.now it.s.now) it.at ≡ suffix_groups s a.from = cc in (
+      record { at = a.from; fits = omega (arith, length_ranked a.ranks.list.now a.s.now); is = e },
       list_none s a.from a.size a.at a.row.now (search rules),
-      length_ranked a.ranks.now a.s.now,
+      length_ranked a.ranks.list.now a.s.now,
     )
 
 pub write_run-next-requires : goal.write_run-next-requires
@@ -47,4 +47,4 @@ pub returns : goal.returns
 returns c =
     let a = c.args in
     let l = c.loop-g.invariant in
-    list_all (ranked a.ranks.now a.s.now) a.from a.size a.at a.row.now (search rules) l.1 (left_end l.0 c.in-None.ensures.steps.0)
+    list_all (ranked a.ranks.list.now a.s.now) a.from a.size a.at a.row.now (search rules) l.1 (left_end l.0 c.in-None.ensures.steps.0)

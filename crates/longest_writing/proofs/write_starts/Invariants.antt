@@ -9,6 +9,6 @@ use Rattle.longest_writing.proofs.write_starts.Given as goal
 
 abbrev pub invariant-loop-g : goal.invariant-loop-g
 invariant-loop-g l =
-    let s = ranked l.ranks l.s in
+    let s = ranked l.ranks.list.now l.s in
     let it = l.g-iterator in
-    (left : Left s (suffix_groups (ranked it.ranks.now it.s.now) it.at)) × Listed s l.from l.size l.at l.initial.row l.row l.next left.at × (length s ≡ length l.s)
+    (left : Left s (suffix_groups (ranked it.ranks.list.now it.s.now) it.at)) × Listed s l.from l.size l.at l.initial.row l.row l.next left.at × (length s ≡ length l.s)

@@ -17,7 +17,7 @@ returns-then-groups-count c =
 
 pub fill_groups-requires : goal.fill_groups-requires
 fill_groups-requires c =
-    let ranks = c.in_ok-ranks.ranks.now in
+    let ranks = c.in_ok-ranks.ranks.list.now in
     let s = c.args.pattern.now in
     let row = c.args.groups.now in
     let room : 3 * length (suffix_groups (ranked ranks s) 0) ≤ length row =
@@ -25,11 +25,11 @@ fill_groups-requires c =
       | then-groups-pattern+else-groups-count w ↦ room_counted ranks s row w.count_groups-count.ensures w.if-groups-count.false
       | else-groups-pattern w ↦ room_any ranks s row w.if-groups-pattern.false
     ] in
-    (search rules, search rules, search rules, omega (arith, room))
+    (search rules, search rules, omega (arith, room))
 
 pub returns : goal.returns
 returns c =
-    let ranks = c.in_ok-ranks.ranks.now in
+    let ranks = c.in_ok-ranks.ranks.list.now in
     let s = c.args.pattern.now in
     let row = c.args.groups.now in
     let room : 3 * length (suffix_groups (ranked ranks s) 0) ≤ length row =

@@ -19,6 +19,6 @@ returns c =
     let t = c.in_ok-ranks.ensures.accepted in
     both_fit a.first.now a.second.now a.order.now t.is (search rules) (search rules) c.compare.result
     (c.compare.ensures
-    ∙ compared_same c.in_ok-ranks.ranks.now a.order.now a.first.now a.second.now
+    ∙ compared_same c.in_ok-ranks.ranks.list.now a.order.now a.first.now a.second.now
     (t.same a.first.now (λ i h. omega (arith, c.type_inv.first i)))
     (t.same a.second.now (λ i h. omega (arith, c.type_inv.second i))))

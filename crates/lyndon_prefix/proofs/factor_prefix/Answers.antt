@@ -21,7 +21,7 @@ returns-then-not-is_last_factors c =
     (λ i h. omega (arith, c.type_inv.pattern i)) (sym c.is_last_factors.ensures ∙ c.if-not-is_last_factors.true)
 
 pub count_prefix-count-requires : goal.count_prefix-count-requires
-count_prefix-count-requires c = (search rules, search rules, same_true _ _ (sym c.is_last_factors.ensures ∙ c.if-not-is_last_factors.false))
+count_prefix-count-requires c = (search rules, same_true _ _ (sym c.is_last_factors.ensures ∙ c.if-not-is_last_factors.false))
 
 pub returns-then-groups-count : goal.returns-then-groups-count
 returns-then-groups-count c =
@@ -29,7 +29,7 @@ returns-then-groups-count c =
     (λ i h. omega (arith, c.type_inv.pattern i)) (sym c.is_last_factors.ensures ∙ c.if-not-is_last_factors.false) (search rules)
 
 pub write_prefix-requires : goal.write_prefix-requires
-write_prefix-requires c = (search rules, search rules, search rules, same_true _ _ (sym c.is_last_factors.ensures ∙ c.if-not-is_last_factors.false), c.count_prefix-count.ensures, search rules)
+write_prefix-requires c = (search rules, search rules, same_true _ _ (sym c.is_last_factors.ensures ∙ c.if-not-is_last_factors.false), c.count_prefix-count.ensures, search rules)
 
 pub returns : goal.returns
 returns c =

@@ -21,7 +21,7 @@ returns-then-not-is_lyndon_array c =
     (λ i h. omega (arith, c.type_inv.pattern i)) (sym c.is_lyndon_array.ensures ∙ c.if-not-is_lyndon_array.true)
 
 pub count_suffix-count-requires : goal.count_suffix-count-requires
-count_suffix-count-requires c = (search rules, same_true _ _ (sym c.is_lyndon_array.ensures ∙ c.if-not-is_lyndon_array.false))
+count_suffix-count-requires c = same_true _ _ (sym c.is_lyndon_array.ensures ∙ c.if-not-is_lyndon_array.false)
 
 pub returns-then-groups-count : goal.returns-then-groups-count
 returns-then-groups-count c =
@@ -29,7 +29,7 @@ returns-then-groups-count c =
     (λ i h. omega (arith, c.type_inv.pattern i)) (sym c.is_lyndon_array.ensures ∙ c.if-not-is_lyndon_array.false) (search rules)
 
 pub write_suffix-requires : goal.write_suffix-requires
-write_suffix-requires c = (search rules, search rules, same_true _ _ (sym c.is_lyndon_array.ensures ∙ c.if-not-is_lyndon_array.false), omega (arith, c.count_suffix-count.ensures))
+write_suffix-requires c = (search rules, same_true _ _ (sym c.is_lyndon_array.ensures ∙ c.if-not-is_lyndon_array.false), omega (arith, c.count_suffix-count.ensures))
 
 pub returns : goal.returns
 returns c =

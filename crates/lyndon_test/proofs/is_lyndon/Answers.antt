@@ -10,4 +10,4 @@ returns c =
     let p = c.in_ok-ranks in
     let g = c.next_group in
     told_yes p.ensures.accepted a.word.now (λ i h. omega (arith, c.type_inv.word i)) (search rules) _
-    (whole_lyndon p.ranks.now a.word.now g.result.length g.result.power g.ensures)
+    (whole_lyndon p.ranks.list.now a.word.now g.result.length g.result.power g.ensures)

@@ -14,15 +14,15 @@ returns-then-text-count c =
 pub write_text-requires : goal.write_text-requires
 write_text-requires c =
     let a = c.args in
-    let ranks = c.in_ok-ranks.ranks.now in
+    let ranks = c.in_ok-ranks.ranks.list.now in
     let room : length (listing_by ranks a.pattern.now) ≤ length a.text.now =
     grind (arith, listing_most ranks a.pattern.now (search rules)) in
-    (c.in_ok-ranks.ensures.accepted.known, omega (arith, room))
+    omega (arith, room)
 
 pub returns : goal.returns
 returns c =
     let a = c.args in
-    let ranks = c.in_ok-ranks.ranks.now in
+    let ranks = c.in_ok-ranks.ranks.list.now in
     let room : length (listing_by ranks a.pattern.now) ≤ length a.text.now =
     grind (arith, listing_most ranks a.pattern.now (search rules)) in
     listed c.in_ok-ranks.ensures.accepted a.pattern.now a.text.now (λ i h. omega (arith, c.type_inv.pattern i)) (search rules) room

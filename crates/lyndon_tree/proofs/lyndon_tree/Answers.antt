@@ -9,34 +9,34 @@ pub returns-then-n-eq0 : goal.returns-then-n-eq0
 returns-then-n-eq0 c =
     let w = c.args.word.now in
     tree_not_lyndon c.in_ok-ranks.ensures.accepted w c.args.nodes.now (λ i h. omega (arith, c.type_inv.word i)) (search rules)
-    (empty_not_lyndon c.in_ok-ranks.ranks.now w (search rules))
+    (empty_not_lyndon c.in_ok-ranks.ranks.list.now w (search rules))
 
 pub returns-then-first-n : goal.returns-then-first-n
 returns-then-first-n c =
     let w = c.args.word.now in
     let g = c.next_group-first in
-    let l = part_not_lyndon c.in_ok-ranks.ranks.now w g.result.length g.result.power g.ensures c.if-first-n.true in
+    let l = part_not_lyndon c.in_ok-ranks.ranks.list.now w g.result.length g.result.power g.ensures c.if-first-n.true in
     tree_not_lyndon c.in_ok-ranks.ensures.accepted w c.args.nodes.now (λ i h. omega (arith, c.type_inv.word i)) (search rules) l
 
 pub returns-then-nodes-count : goal.returns-then-nodes-count
 returns-then-nodes-count c =
     let w = c.args.word.now in
     let g = c.next_group-first in
-    let l = all_lyndon c.in_ok-ranks.ranks.now w g.result.length g.result.power g.ensures c.if-first-n.false in
+    let l = all_lyndon c.in_ok-ranks.ranks.list.now w g.result.length g.result.power g.ensures c.if-first-n.false in
     tree_short c.in_ok-ranks.ensures.accepted w c.args.nodes.now (λ i h. omega (arith, c.type_inv.word i)) (search rules) l (search rules)
 
 pub write_nodes-requires : goal.write_nodes-requires
 write_nodes-requires c =
     let w = c.args.word.now in
-    let ranks = c.in_ok-ranks.ranks.now in
+    let ranks = c.in_ok-ranks.ranks.list.now in
     let g = c.next_group-first in
     let l = all_lyndon ranks w g.result.length g.result.power g.ensures c.if-first-n.false in
-    (c.in_ok-ranks.ensures.accepted.known, tree_word ranks w l, search rules, search rules)
+    (tree_word ranks w l, search rules, search rules)
 
 pub returns : goal.returns
 returns c =
     let w = c.args.word.now in
     let g = c.next_group-first in
-    let l = all_lyndon c.in_ok-ranks.ranks.now w g.result.length g.result.power g.ensures c.if-first-n.false in
+    let l = all_lyndon c.in_ok-ranks.ranks.list.now w g.result.length g.result.power g.ensures c.if-first-n.false in
     tree_done c.in_ok-ranks.ensures.accepted w c.args.nodes.now (λ i h. omega (arith, c.type_inv.word i)) (search rules) l (search rules)
     c.write_nodes.ensures.1

@@ -14,12 +14,12 @@ use Rattle.prefix_chain.proofs.count_prefix.Goals as goal
 pub count-requires-clause-fits : goal.count-requires-clause-fits
 count-requires-clause-fits c =
     let a = c.args in
-    let s = ranked a.ranks.now a.s.now in
-    inl (omega (arith, prefix_few s a.end, back_count s a.end, length_ranked a.ranks.now a.s.now))
+    let s = ranked a.ranks.list.now a.s.now in
+    inl (omega (arith, prefix_few s a.end, back_count s a.end, length_ranked a.ranks.list.now a.s.now))
 
 pub returns : goal.returns
 returns c =
     let a = c.args in
-    let s = ranked a.ranks.now a.s.now in
-    let all = YieldsList-from_first (λ g. group_of g.start g.length g.power) (λ it. reverse (prefix_groups (ranked it.ranks.now it.s.now) it.end)) (reverse (prefix_groups s a.end)) refl in
+    let s = ranked a.ranks.list.now a.s.now in
+    let all = YieldsList-from_first (λ g. group_of g.start g.length g.power) (λ it. reverse (prefix_groups (ranked it.ranks.list.now it.s.now) it.end)) (reverse (prefix_groups s a.end)) refl in
     count_from_yields_List _ c.count.result c.count.ensures.ran all ∙ back_count s a.end

@@ -6,7 +6,7 @@ use Rattle.prefix_chain.proofs.Before.{Equal}
 use Rattle.prefix_chain.proofs.group_before.Given as goal
 
 abbrev pub invariant-loop-j : goal.invariant-loop-j
-invariant-loop-j l = Equal (ranked l.ranks l.s) l.q l.length l.power l.j × (length (ranked l.ranks l.s) ≡ length l.s)
+invariant-loop-j l = Equal (ranked l.ranks.list.now l.s) l.q l.length l.power l.j × (length (ranked l.ranks.list.now l.s) ≡ length l.s)
 
 abbrev pub decreases-loop-j : goal.decreases-loop-j
 decreases-loop-j l = l.j

@@ -13,10 +13,10 @@ use Rattle.prefix_chain.proofs.write_prefix.Goals as goal
 pub loop-g-init : goal.loop-g-init
 loop-g-init c =
     let a = c.args in
-    let s = ranked a.ranks.now a.s.now in
+    let s = ranked a.ranks.list.now a.s.now in
     let it = c.into_iter-g-iterator.result in
-    let e : reverse (prefix_groups (ranked it.ranks.now it.s.now) it.end) ≡ reverse (prefix_groups s a.end) = cc in (
-      record { end = a.end; fits = omega (arith, length_ranked a.ranks.now a.s.now); is = e },
+    let e : reverse (prefix_groups (ranked it.ranks.list.now it.s.now) it.end) ≡ reverse (prefix_groups s a.end) = cc in (
+      record { end = a.end; fits = omega (arith, length_ranked a.ranks.list.now a.s.now); is = e },
       omega arith,
       write_start s a.row.now a.end a.count (search rules) (search rules),
     )
@@ -44,4 +44,4 @@ pub returns : goal.returns
 returns c =
     let a = c.args in
     let l = c.loop-g.invariant in
-    write_end (ranked a.ranks.now a.s.now) l.0.end (left_end l.0 c.in-None.ensures.steps.0) l.2
+    write_end (ranked a.ranks.list.now a.s.now) l.0.end (left_end l.0 c.in-None.ensures.steps.0) l.2

@@ -10,7 +10,7 @@ use Rattle.prefix_chain.proofs.write_prefix.Given as goal
 
 abbrev pub invariant-loop-g : goal.invariant-loop-g
 invariant-loop-g l =
-    let s = ranked l.ranks l.s in
+    let s = ranked l.ranks.list.now l.s in
     let it = l.g-iterator in
-    (left : LeftBack s (reverse (prefix_groups (ranked it.ranks.now it.s.now) it.end)))
+    (left : LeftBack s (reverse (prefix_groups (ranked it.ranks.list.now it.s.now) it.end)))
     × (left.end ≤ l.end) × Back (group_numbers (prefix_groups s l.end)) l.initial.row l.row l.at (group_numbers (prefix_groups s left.end))

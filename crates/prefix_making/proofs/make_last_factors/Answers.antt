@@ -12,12 +12,12 @@ use Rattle.prefix_making.proofs.make_last_factors.Goals as goal
 
 pub loop-i-init : goal.loop-i-init
 loop-i-init c =
-    let s = ranked c.args.ranks.now c.args.s.now in
-    (reached_start s, filled_none (last_to s) (length s) c.args.table.now 0, length_ranked c.args.ranks.now c.args.s.now)
+    let s = ranked c.args.ranks.list.now c.args.s.now in
+    (reached_start s, filled_none (last_to s) (length s) c.args.table.now 0, length_ranked c.args.ranks.list.now c.args.s.now)
 
 pub returns : goal.returns
 returns c =
     let b = c.args in
-    let s = ranked b.ranks.now b.s.now in
+    let s = ranked b.ranks.list.now b.s.now in
     let e : c.loop-i.i ≡ length s = omega arith in
     filled_all (last_table s) c.loop-i.table (omega arith) (rw e at c.loop-i.invariant.1)

@@ -9,7 +9,7 @@ use Rattle.prefix_table.proofs.Pass.{Reached}
 use Rattle.prefix_making.proofs.make_last_factors.Given as goal
 
 abbrev pub invariant-loop-i : goal.invariant-loop-i
-invariant-loop-i l = Reached (ranked l.ranks l.s) l.i × Filled (last_to (ranked l.ranks l.s)) (length (ranked l.ranks l.s)) l.initial.table l.table 0 l.i × (length (ranked l.ranks l.s) ≡ length l.s)
+invariant-loop-i l = Reached (ranked l.ranks.list.now l.s) l.i × Filled (last_to (ranked l.ranks.list.now l.s)) (length (ranked l.ranks.list.now l.s)) l.initial.table l.table 0 l.i × (length (ranked l.ranks.list.now l.s) ≡ length l.s)
 
 abbrev pub decreases-loop-i : goal.decreases-loop-i
 decreases-loop-i l = length l.s - l.i

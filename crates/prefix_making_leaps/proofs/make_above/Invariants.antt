@@ -8,7 +8,7 @@ use Rattle.prefix_making_leaps.specs.Making.{Making}
 use Rattle.prefix_making_leaps.proofs.make_above.Given as goal
 
 abbrev pub invariant-loop-j : goal.invariant-loop-j
-invariant-loop-j l = (l.from ≤ l.j) × Making (ranked l.ranks l.s) l.initial.table l.table l.i l.j (l.j - l.i) × (length (ranked l.ranks l.s) ≡ length l.s) × AboveEnd l.ranks l.s l.c l.from l.end × (l.j ≤ l.end)
+invariant-loop-j l = (l.from ≤ l.j) × Making (ranked l.ranks.list.now l.s) l.initial.table l.table l.i l.j (l.j - l.i) × (length (ranked l.ranks.list.now l.s) ≡ length l.s) × AboveEnd l.ranks.list.now l.s l.c l.from l.end × (l.j ≤ l.end)
 
 abbrev pub decreases-loop-j : goal.decreases-loop-j
 decreases-loop-j l = l.end - l.j

@@ -5,6 +5,6 @@ use Rattle.prefix_making_leaps.proofs.make_blocks.Goals as goal
 
 pub copied_from-back-requires : goal.copied_from-back-requires
 copied_from-back-requires c =
-    let m = c.requires.3.scan in
-    let e = length_ranked c.args.ranks.now c.args.s.now in
+    let m = c.requires.2.scan in
+    let e = length_ranked c.args.ranks.list.now c.args.s.now in
     (m.some, omega (arith, m.fits, m.ends))

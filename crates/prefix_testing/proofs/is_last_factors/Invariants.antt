@@ -9,7 +9,7 @@ use Rattle.prefix_table.proofs.Pass.{Reached}
 use Rattle.prefix_testing.proofs.is_last_factors.Given as goal
 
 abbrev pub invariant-loop-start : goal.invariant-loop-start
-invariant-loop-start l = Reached (ranked l.ranks l.s) l.start × Right (last_to (ranked l.ranks l.s)) l.table 0 l.start × (length (ranked l.ranks l.s) ≡ length l.s)
+invariant-loop-start l = Reached (ranked l.ranks.list.now l.s) l.start × Right (last_to (ranked l.ranks.list.now l.s)) l.table 0 l.start × (length (ranked l.ranks.list.now l.s) ≡ length l.s)
 
 abbrev pub decreases-loop-start : goal.decreases-loop-start
 decreases-loop-start l = length l.s - l.start

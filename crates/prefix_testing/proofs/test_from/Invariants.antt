@@ -6,10 +6,10 @@ use Rattle.prefix_table.specs.State.{Testing}
 use Rattle.prefix_testing.proofs.test_from.Given as goal
 
 abbrev pub invariant-loop-k : goal.invariant-loop-k
-invariant-loop-k l = Testing (ranked l.ranks l.s) l.table l.i l.k l.size
+invariant-loop-k l = Testing (ranked l.ranks.list.now l.s) l.table l.i l.k l.size
 
 abbrev pub invariant-loop-end : goal.invariant-loop-end
-invariant-loop-end l = (0 < l.gap) × (l.gap ≤ 256) × Testing (ranked l.ranks l.s) l.table l.i l.end l.size
+invariant-loop-end l = (0 < l.gap) × (l.gap ≤ 256) × Testing (ranked l.ranks.list.now l.s) l.table l.i l.end l.size
 
 abbrev pub decreases-loop-end : goal.decreases-loop-end
 decreases-loop-end l = length l.s - l.end

@@ -9,24 +9,24 @@ use Rattle.prefix_testing_leaps.proofs.test_above.Goals as goal
 
 pub bounds-s-i : goal.bounds-s-i
 bounds-s-i c =
-    omega (arith, start_below c.requires.1, length_ranked c.args.ranks.now c.args.s.now)
+    omega (arith, start_below c.requires.0, length_ranked c.args.ranks.list.now c.args.s.now)
 
 pub above_end-end-requires : goal.above_end-end-requires
 above_end-end-requires c =
-    (c.requires.0, omega (arith, c.requires.3.scan.fits, length_ranked c.args.ranks.now c.args.s.now))
+    omega (arith, c.requires.2.scan.fits, length_ranked c.args.ranks.list.now c.args.s.now)
 
 pub loop-j-init : goal.loop-j-init
 loop-j-init c =
-    (search rules, c.requires.3, length_ranked c.args.ranks.now c.args.s.now, c.above_end-end.ensures, c.above_end-end.ensures.after)
+    (search rules, c.requires.2, length_ranked c.args.ranks.list.now c.args.s.now, c.above_end-end.ensures, c.above_end-end.ensures.after)
 
 pub loop-j-preserved : goal.loop-j-preserved
 loop-j-preserved c =
     let v = c.above_block in
     let above = above_told c.loop-j.j c.loop-j.invariant.3 v.ensures c.if-not-above_block.false c.loop-j.invariant.0 (omega arith) in
-    let first = above_first c.args.ranks.now c.args.s.now (start_below c.requires.1) above in
+    let first = above_first c.args.ranks.list.now c.args.s.now (start_below c.requires.0) above in
     let right = c.are_lengths.ensures c.if-not-are_lengths.false in (
       search rules,
-      above_block c.requires.1 c.args.table.now c.loop-j.invariant.1 (search rules) first right 16 (search rules),
+      above_block c.requires.0 c.args.table.now c.loop-j.invariant.1 (search rules) first right 16 (search rules),
       c.loop-j.invariant.2,
       c.loop-j.invariant.3,
       omega arith,

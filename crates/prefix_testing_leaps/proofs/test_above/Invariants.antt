@@ -8,7 +8,7 @@ use Rattle.prefix_table.specs.State.{Testing}
 use Rattle.prefix_testing_leaps.proofs.test_above.Given as goal
 
 abbrev pub invariant-loop-j : goal.invariant-loop-j
-invariant-loop-j l = (l.from ≤ l.j) × Testing (ranked l.ranks l.s) l.table l.i l.j (l.j - l.i) × (length (ranked l.ranks l.s) ≡ length l.s) × AboveEnd l.ranks l.s l.c l.from l.end × (l.j ≤ l.end)
+invariant-loop-j l = (l.from ≤ l.j) × Testing (ranked l.ranks.list.now l.s) l.table l.i l.j (l.j - l.i) × (length (ranked l.ranks.list.now l.s) ≡ length l.s) × AboveEnd l.ranks.list.now l.s l.c l.from l.end × (l.j ≤ l.end)
 
 abbrev pub decreases-loop-j : goal.decreases-loop-j
 decreases-loop-j l = l.end - l.j

@@ -7,7 +7,7 @@ use Rattle.prefix_table.specs.State.{Testing}
 use Rattle.prefix_testing_leaps.proofs.test_again.Given as goal
 
 abbrev pub invariant-loop-j : goal.invariant-loop-j
-invariant-loop-j l = (l.from ≤ l.j) × Testing (ranked l.ranks l.s) l.table l.i l.j l.p × (length (ranked l.ranks l.s) ≡ length l.s)
+invariant-loop-j l = (l.from ≤ l.j) × Testing (ranked l.ranks.list.now l.s) l.table l.i l.j l.p × (length (ranked l.ranks.list.now l.s) ≡ length l.s)
 
 abbrev pub decreases-loop-j : goal.decreases-loop-j
 decreases-loop-j l = length l.s - l.j

@@ -7,5 +7,5 @@ use Rattle.reach_compare.proofs.beside.Goals as goal
 
 pub beside_from-requires : goal.beside_from-requires
 beside_from-requires c =
-    let known = alike_bytes c.args.ranks.now c.args.s.now c.args.i c.args.j c.requires.0 (λ i h. omega (arith, c.type_inv.s i)) (omega arith) c.requires.4 in
-    (search rules, search rules, omega arith, agrees_less known _ (omega arith))
+    let known = alike_bytes c.args.ranks.list.now c.args.s.now c.args.i c.args.j c.args.ranks.known (λ i h. omega (arith, c.type_inv.s i)) (omega arith) c.requires.3 in
+    (search rules, omega arith, agrees_less known _ (omega arith))

@@ -11,7 +11,7 @@ use Rattle.reach_compare.proofs.beside_anew.Goals as goal
 
 pub returns-then-c-d : goal.returns-then-c-d
 returns-then-c-d c =
-    let o = c.args.ranks.now in
+    let o = c.args.ranks.list.now in
     let s = c.args.s.now in
     let n = c.if-c-d.true in
     let b = c.below in
@@ -20,6 +20,6 @@ returns-then-c-d c =
     record {
       agree = alike_none c.args.i c.args.j (omega (arith, length_ranked o s));
       less = below_smaller o s c.args.i c.args.j p q n b.result b.ensures
-          ∙ sym (first_differ (ranked o s) c.args.i c.args.j c.args.y c.requires.1 c.requires.2 (rw (length_ranked o s) c.requires.3)
+          ∙ sym (first_differ (ranked o s) c.args.i c.args.j c.args.y c.requires.0 c.requires.1 (rw (length_ranked o s) c.requires.2)
           (below_apart o s c.args.i c.args.j p q n b.result b.ensures));
     }

@@ -7,4 +7,4 @@ use Rattle.memo.specs.Memo.{Memo}
 use Rattle.reach_making.proofs.make_by.Given as goal
 
 abbrev pub invariant-loop-i : goal.invariant-loop-i
-invariant-loop-i l = Memo (ranked l.ranks l.s) l.memo × Filled (longest_at (ranked l.ranks l.s)) (length l.s) l.initial.table l.table l.i (length l.s)
+invariant-loop-i l = Memo (ranked l.ranks.list.now l.s) l.memo × Filled (longest_at (ranked l.ranks.list.now l.s)) (length l.s) l.initial.table l.table l.i (length l.s)

@@ -8,10 +8,10 @@ use Rattle.reach_making.proofs.make_plain.Goals as goal
 
 pub merge_at-m-requires : goal.merge_at-m-requires
 merge_at-m-requires c =
-    let e = length_ranked c.args.ranks.now c.args.s.now in
-    (c.requires.0, omega arith, record { room = omega (arith, c.loop-i.invariant.size); right = λ k b d. c.loop-i.invariant.inside k (omega arith) (omega arith) })
+    let e = length_ranked c.args.ranks.list.now c.args.s.now in
+    (omega arith, record { room = omega (arith, c.loop-i.invariant.size); right = λ k b d. c.loop-i.invariant.inside k (omega arith) (omega arith) })
 
 pub overflow_cast-table : goal.overflow_cast-table
 overflow_cast-table c =
-    let e = length_ranked c.args.ranks.now c.args.s.now in
-    omega (arith, c.merge_at-m.ensures, longest_at_fits (ranked c.args.ranks.now c.args.s.now) (c.loop-i.i - 1) (omega arith))
+    let e = length_ranked c.args.ranks.list.now c.args.s.now in
+    omega (arith, c.merge_at-m.ensures, longest_at_fits (ranked c.args.ranks.list.now c.args.s.now) (c.loop-i.i - 1) (omega arith))

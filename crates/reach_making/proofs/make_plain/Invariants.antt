@@ -6,4 +6,4 @@ use Rattle.rows.proofs.Fill.{Filled}
 use Rattle.reach_making.proofs.make_plain.Given as goal
 
 abbrev pub invariant-loop-i : goal.invariant-loop-i
-invariant-loop-i l = Filled (longest_at (ranked l.ranks l.s)) (length l.s) l.initial.table l.table l.i (length l.s)
+invariant-loop-i l = Filled (longest_at (ranked l.ranks.list.now l.s)) (length l.s) l.initial.table l.table l.i (length l.s)

@@ -5,4 +5,4 @@ use Rattle.reach_making.proofs.make_rest.Goals as goal
 
 pub make_by-requires : goal.make_by-requires
 make_by-requires c =
-    (c.requires.0, c.requires.1, c.requires.2, c.requires.3, memo_start (ranked c.args.ranks.now c.args.s.now))
+    (c.requires.0, c.requires.1, c.requires.2, memo_start (ranked c.args.ranks.list.now c.args.s.now))

@@ -10,23 +10,23 @@ use Rattle.reach_table.proofs.longest_at.Goals as goal
 
 pub loop-j-init : goal.loop-j-init
 loop-j-init c =
-    let e = length_ranked c.args.ranks.now c.args.s.now in
-    (c.requires.3, merging_start (grown_start (ranked c.args.ranks.now c.args.s.now) c.args.i (rw e c.requires.1)), e)
+    let e = length_ranked c.args.ranks.list.now c.args.s.now in
+    (c.requires.2, merging_start (grown_start (ranked c.args.ranks.list.now c.args.s.now) c.args.i (rw e c.requires.0)), e)
 
 pub beside-next-requires : goal.beside-next-requires
 beside-next-requires c =
     let m = c.loop-j.invariant.1 in
     let f = c.loop-j.invariant.2 in
     let y = c.entry-y in
-    let (h, next) = entry_at c.args.ranks.now c.args.s.now c.requires.2 m.grown.some c.loop-j-test.true y.ensures in
-    (c.requires.0, m.grown.some, next_some m.grown y.result next h, rw f at (next_fits m.grown y.result next h), merging_known m c.min.result (search rules) (search rules))
+    let (h, next) = entry_at c.args.ranks.list.now c.args.s.now c.requires.1 m.grown.some c.loop-j-test.true y.ensures in
+    (m.grown.some, next_some m.grown y.result next h, rw f at (next_fits m.grown y.result next h), merging_known m c.min.result (search rules) (search rules))
 
 pub keep-requires : goal.keep-requires
 keep-requires c =
     let m = c.loop-j.invariant.1 in
     let f = c.loop-j.invariant.2 in
     let y = c.entry-y in
-    let (h, next) = entry_at c.args.ranks.now c.args.s.now c.requires.2 m.grown.some c.loop-j-test.true y.ensures in
+    let (h, next) = entry_at c.args.ranks.list.now c.args.s.now c.requires.1 m.grown.some c.loop-j-test.true y.ensures in
     let w = c.beside-next in
     let up = not-true w.result.up c.if-not-next.true in
     (c.loop-j.invariant.0, omega (arith, m.grown.some, h, f), merging_slot m y.result w.result.e w.result.up w.ensures next h up c.best.result c.best.ensures)
@@ -36,7 +36,7 @@ returns-then-not-next c =
     let m = c.loop-j.invariant.1 in
     let f = c.loop-j.invariant.2 in
     let y = c.entry-y in
-    let (h, next) = entry_at c.args.ranks.now c.args.s.now c.requires.2 m.grown.some c.loop-j-test.true y.ensures in
+    let (h, next) = entry_at c.args.ranks.list.now c.args.s.now c.requires.1 m.grown.some c.loop-j-test.true y.ensures in
     let w = c.beside-next in
     let up = not-true w.result.up c.if-not-next.true in
     record { entry = merging_stop m y.result w.result.e w.result.up w.ensures next h up; remains = c.keep.ensures }
@@ -46,7 +46,7 @@ recall-k-requires c =
     let m = c.loop-j.invariant.1 in
     let f = c.loop-j.invariant.2 in
     let y = c.entry-y in
-    let (h, next) = entry_at c.args.ranks.now c.args.s.now c.requires.2 m.grown.some c.loop-j-test.true y.ensures in
+    let (h, next) = entry_at c.args.ranks.list.now c.args.s.now c.requires.1 m.grown.some c.loop-j-test.true y.ensures in
     let w = c.beside-next in
     (c.loop-j.invariant.0, omega (arith, m.grown.some, h, f), merging_place m y.result w.result.e w.result.up w.ensures (omega (arith, m.grown.some, h)))
 
@@ -55,7 +55,7 @@ loop-j-preserved c =
     let m = c.loop-j.invariant.1 in
     let f = c.loop-j.invariant.2 in
     let y = c.entry-y in
-    let (h, next) = entry_at c.args.ranks.now c.args.s.now c.requires.2 m.grown.some c.loop-j-test.true y.ensures in
+    let (h, next) = entry_at c.args.ranks.list.now c.args.s.now c.requires.1 m.grown.some c.loop-j-test.true y.ensures in
     let w = c.beside-next in
     let up = not-false w.result.up c.if-not-next.false in (
       c.loop-j.invariant.0,

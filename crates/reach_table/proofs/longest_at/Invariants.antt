@@ -8,8 +8,8 @@ use Prim.Native.Nat.{◌-◌}
 use Rattle.reach_table.proofs.longest_at.Given as goal
 
 abbrev pub invariant-loop-j : goal.invariant-loop-j
-invariant-loop-j l = Memo (ranked l.ranks l.s) l.memo × Merging (ranked l.ranks l.s) l.i l.j l.d l.edge l.shared
-    × (length (ranked l.ranks l.s) ≡ length l.s)
+invariant-loop-j l = Memo (ranked l.ranks.list.now l.s) l.memo × Merging (ranked l.ranks.list.now l.s) l.i l.j l.d l.edge l.shared
+    × (length (ranked l.ranks.list.now l.s) ≡ length l.s)
 
 abbrev pub decreases-loop-j : goal.decreases-loop-j
 decreases-loop-j l = length l.s - l.j

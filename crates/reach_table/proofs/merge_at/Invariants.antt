@@ -7,7 +7,7 @@ use Prim.Native.Nat.{◌-◌}
 use Rattle.reach_table.proofs.merge_at.Given as goal
 
 abbrev pub invariant-loop-j : goal.invariant-loop-j
-invariant-loop-j l = Grown (ranked l.ranks l.s) l.i l.j × (length (ranked l.ranks l.s) ≡ length l.s)
+invariant-loop-j l = Grown (ranked l.ranks.list.now l.s) l.i l.j × (length (ranked l.ranks.list.now l.s) ≡ length l.s)
 
 abbrev pub decreases-loop-j : goal.decreases-loop-j
 decreases-loop-j l = length l.s - l.j

@@ -7,4 +7,4 @@ use Rattle.memo.specs.Memo.{Memo}
 use Rattle.reach_testing.proofs.test_by.Given as goal
 
 abbrev pub invariant-loop-i : goal.invariant-loop-i
-invariant-loop-i l = Memo (ranked l.ranks l.s) l.memo × Right (longest_at (ranked l.ranks l.s)) l.table l.i (length (ranked l.ranks l.s))
+invariant-loop-i l = Memo (ranked l.ranks.list.now l.s) l.memo × Right (longest_at (ranked l.ranks.list.now l.s)) l.table l.i (length (ranked l.ranks.list.now l.s))

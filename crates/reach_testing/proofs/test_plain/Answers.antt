@@ -11,16 +11,16 @@ use native.Mathlib.Omega.{arith}
 use Rattle.reach_testing.proofs.test_plain.Goals as goal
 
 pub loop-i-init : goal.loop-i-init
-loop-i-init c = λ k a b. absurd (omega (arith, length_ranked c.args.ranks.now c.args.s.now))
+loop-i-init c = λ k a b. absurd (omega (arith, length_ranked c.args.ranks.list.now c.args.s.now))
 
 pub merge_at-m-requires : goal.merge_at-m-requires
 merge_at-m-requires c =
-    let e = length_ranked c.args.ranks.now c.args.s.now in
-    (c.requires.0, omega arith, record { room = omega arith; right = λ k a b. c.loop-i.invariant k (omega arith) b })
+    let e = length_ranked c.args.ranks.list.now c.args.s.now in
+    (omega arith, record { room = omega arith; right = λ k a b. c.loop-i.invariant k (omega arith) b })
 
 pub returns-then-entry-m : goal.returns-then-entry-m
 returns-then-entry-m c =
-    let e = length_ranked c.args.ranks.now c.args.s.now in (
+    let e = length_ranked c.args.ranks.list.now c.args.s.now in (
       c.loop-i.i - 1,
       record {
         within = omega arith;
@@ -32,9 +32,9 @@ returns-then-entry-m c =
 pub returns-then-budget-cost : goal.returns-then-budget-cost
 returns-then-budget-cost c =
     let i = c.loop-i.i in
-    let s = ranked c.args.ranks.now c.args.s.now in
+    let s = ranked c.args.ranks.list.now c.args.s.now in
     let table = c.args.table.now in
-    let e = length_ranked c.args.ranks.now c.args.s.now in
+    let e = length_ranked c.args.ranks.list.now c.args.s.now in
     let one = right_one (longest_at s) table (i - 1) i (omega arith) (omega (arith, c.merge_at-m.ensures, c.entry.ensures, c.if-entry-m.false)) in
     let right = right_join (longest_at s) table (i - 1) i (length s) one c.loop-i.invariant in
     record { within = omega arith; right = λ q. record { room = omega arith; right = right }; differs = λ q. absurd (true_false q refl) }
@@ -42,5 +42,5 @@ returns-then-budget-cost c =
 pub returns : goal.returns
 returns c =
     let f : c.loop-i.i ≡ 0 = omega arith in
-    let e = length_ranked c.args.ranks.now c.args.s.now in
+    let e = length_ranked c.args.ranks.list.now c.args.s.now in
     record { within = omega arith; right = λ q. record { room = omega arith; right = rw f at c.loop-i.invariant }; differs = λ q. absurd (true_false q refl) }

@@ -6,4 +6,4 @@ use Rattle.rows.proofs.Fill.{Right}
 use Rattle.reach_testing.proofs.test_plain.Given as goal
 
 abbrev pub invariant-loop-i : goal.invariant-loop-i
-invariant-loop-i l = Right (longest_at (ranked l.ranks l.s)) l.table l.i (length (ranked l.ranks l.s))
+invariant-loop-i l = Right (longest_at (ranked l.ranks.list.now l.s)) l.table l.i (length (ranked l.ranks.list.now l.s))

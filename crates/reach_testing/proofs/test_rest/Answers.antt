@@ -5,4 +5,4 @@ use Rattle.reach_testing.proofs.test_rest.Goals as goal
 
 pub test_by-requires : goal.test_by-requires
 test_by-requires c =
-    (c.requires.0, c.requires.1, c.requires.2, memo_start (ranked c.args.ranks.now c.args.s.now))
+    (c.requires.0, c.requires.1, memo_start (ranked c.args.ranks.list.now c.args.s.now))

@@ -11,15 +11,15 @@ use Rattle.rotation.proofs.least_start.Goals as goal
 pub loop-g-init : goal.loop-g-init
 loop-g-init c =
     let a = c.args in
-    let s = ranked a.ranks.now a.s.now in
+    let s = ranked a.ranks.list.now a.s.now in
     let it = c.into_iter-g-iterator.result in
-    let e : suffix_groups (ranked it.ranks.now it.s.now) it.at ≡ suffix_groups s 0 = cc in
-    (record { at = 0; fits = omega arith; is = e }, omega arith, length_ranked a.ranks.now a.s.now)
+    let e : suffix_groups (ranked it.ranks.list.now it.s.now) it.at ≡ suffix_groups s 0 = cc in
+    (record { at = 0; fits = omega arith; is = e }, omega arith, length_ranked a.ranks.list.now a.s.now)
 
 pub compare_round-round-requires : goal.compare_round-round-requires
 compare_round-round-requires c =
     let t = left_turn c.loop-g.invariant.0 c.in-Some.ensures.steps in
-    (search rules, t.group)
+    t.group
 
 pub overflow_mul-span : goal.overflow_mul-span
 overflow_mul-span c =
@@ -33,7 +33,7 @@ overflow_sub-outside c =
 
 pub returns-then-is_ge : goal.returns-then-is_ge
 returns-then-is_ge c =
-    let s = ranked c.args.ranks.now c.args.s.now in
+    let s = ranked c.args.ranks.list.now c.args.s.now in
     let g = c.in-Some.g in
     let l = c.loop-g.invariant in
     let t = left_turn l.0 c.in-Some.ensures.steps in
@@ -45,7 +45,7 @@ returns-then-is_ge c =
 
 pub loop-g-preserved : goal.loop-g-preserved
 loop-g-preserved c =
-    let s = ranked c.args.ranks.now c.args.s.now in
+    let s = ranked c.args.ranks.list.now c.args.s.now in
     let g = c.in-Some.g in
     let l = c.loop-g.invariant in
     let t = left_turn l.0 c.in-Some.ensures.steps in
@@ -57,7 +57,7 @@ loop-g-preserved c =
 pub returns : goal.returns
 returns c =
     let a = c.args in
-    let s = ranked a.ranks.now a.s.now in
+    let s = ranked a.ranks.list.now a.s.now in
     let l = c.loop-g.invariant in
     let e = left_end l.0 c.in-None.ensures.steps.0 in
     (start_none s l.0.at e l.1, none_tells s l.0.at e l.1)

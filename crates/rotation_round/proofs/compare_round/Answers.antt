@@ -10,19 +10,19 @@ use Rattle.rotation_round.proofs.compare_round.Goals as goal
 
 pub returns-then-size-rest : goal.returns-then-size-rest
 returns-then-size-rest c =
-    bytes_inside c.args.ranks.now c.args.s.now c.requires.1 (search rules)
+    bytes_inside c.args.ranks.list.now c.args.s.now c.requires (search rules)
 
 pub slice_bounds-compare-end : goal.slice_bounds-compare-end
 slice_bounds-compare-end c =
-    sym (length-take-le _ c.args.s.now (omega (arith, word_inside c.args.ranks.now c.args.s.now c.requires.1)))
+    sym (length-take-le _ c.args.s.now (omega (arith, word_inside c.args.ranks.list.now c.args.s.now c.requires)))
 
 pub returns-then-shared_length-rest : goal.returns-then-shared_length-rest
 returns-then-shared_length-rest c =
     let b : Bytes c.args.s.now = λ i l. omega (arith, c.shared_slice_known-1.given i) in
-    bytes_differ c.args.ranks.now c.args.s.now c.requires.1 c.requires.0 b (search rules) (search rules)
+    bytes_differ c.args.ranks.list.now c.args.s.now c.requires c.args.ranks.known b (search rules) (search rules)
 
 pub returns : goal.returns
 returns c =
     let b : Bytes c.args.s.now = λ i l. omega (arith, c.shared_slice_known-1.given i) in
-    compared_smaller c.args.ranks.now _ _ c.compare.ensures
-    ∙ bytes_front c.args.ranks.now c.args.s.now c.requires.1 c.requires.0 b (search rules) (search rules)
+    compared_smaller c.args.ranks.list.now _ _ c.compare.ensures
+    ∙ bytes_front c.args.ranks.list.now c.args.s.now c.requires c.args.ranks.known b (search rules) (search rules)

@@ -13,15 +13,15 @@ use Rattle.scan.proofs.next_group.Goals.{then-x-y+else-below, else-x-y}
 pub loop-j-init : goal.loop-j-init
 loop-j-init c =
     let a = c.args in
-    let e = length_ranked a.ranks.now a.s.now in
-    (search rules, search rules, scan_start (ranked a.ranks.now a.s.now) a.i (omega arith), e)
+    let e = length_ranked a.ranks.list.now a.s.now in
+    (search rules, search rules, scan_start (ranked a.ranks.list.now a.s.now) a.i (omega arith), e)
 
 pub returns-then-below : goal.returns-then-below
 returns-then-below c =
     let a = c.args in
     let l = c.loop-k in
     let h = c.below.ensures.yes c.if-below.true in
-    next_group l.invariant.0 (stop_smaller l.invariant.0 (ranks_below a.ranks.now a.s.now a.s.now l.k (l.k - l.p) (search rules) (search rules) h))
+    next_group l.invariant.0 (stop_smaller l.invariant.0 (ranks_below a.ranks.list.now a.s.now a.s.now l.k (l.k - l.p) (search rules) (search rules) h))
 
 pub loop-k-preserved : goal.loop-k-preserved
 loop-k-preserved c =
@@ -31,9 +31,9 @@ loop-k-preserved c =
     let y : l.k < length a.s.now = search rules in (
       elim c.if-x-y.branch [
         | then-x-y+else-below w ↦
-            rw w.p-is (turn_up l.invariant.0 (search rules) (ranks_below a.ranks.now a.s.now a.s.now (l.k - l.p) l.k x y (w.below.ensures.no w.if-below.false (turned w.if-x-y.true))))
+            rw w.p-is (turn_up l.invariant.0 (search rules) (ranks_below a.ranks.list.now a.s.now a.s.now (l.k - l.p) l.k x y (w.below.ensures.no w.if-below.false (turned w.if-x-y.true))))
         | else-x-y w ↦
-            rw w.p-is (turn_same l.invariant.0 (search rules) (ranks_agree a.ranks.now a.s.now a.s.now (l.k - l.p) l.k x y w.if-x-y.false))
+            rw w.p-is (turn_same l.invariant.0 (search rules) (ranks_agree a.ranks.list.now a.s.now a.s.now (l.k - l.p) l.k x y w.if-x-y.false))
       ],
       l.invariant.1,
     )

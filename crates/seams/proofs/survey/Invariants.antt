@@ -9,6 +9,6 @@ use Rattle.seams.proofs.survey.Given as goal
 
 abbrev pub invariant-loop-g : goal.invariant-loop-g
 invariant-loop-g l =
-    let t = ranked l.ranks l.t in
+    let t = ranked l.ranks.list.now l.t in
     let it = l.g-iterator in
-    (left : Left t (suffix_groups (ranked it.ranks.now it.s.now) it.at)) × Passed t l.end l.from l.q l.ends l.place l.stored l.fresh l.found l.run left.at × (length t ≡ length l.t)
+    (left : Left t (suffix_groups (ranked it.ranks.list.now it.s.now) it.at)) × Passed t l.end l.from l.q l.ends l.place l.stored l.fresh l.found l.run left.at × (length t ≡ length l.t)

@@ -9,4 +9,4 @@ use Rattle.suffix_chain.proofs.count_suffix.Goals as goal
 pub count-requires-clause-fits : goal.count-requires-clause-fits
 count-requires-clause-fits c =
     let it = c.groups_along.result in
-    inl (omega (arith, suffix_few (ranked it.ranks.now it.s.now) it.at, length_ranked it.ranks.now it.s.now))
+    inl (omega (arith, suffix_few (ranked it.ranks.list.now it.s.now) it.at, length_ranked it.ranks.list.now it.s.now))

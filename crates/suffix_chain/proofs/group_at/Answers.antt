@@ -10,39 +10,39 @@ use Rattle.suffix_chain.proofs.group_at.Goals as goal
 
 pub bounds-table-i : goal.bounds-table-i
 bounds-table-i c =
-    omega (arith, array_room c.args.ranks.now c.args.s.now c.args.table.now c.requires.2)
+    omega (arith, array_room c.args.ranks.list.now c.args.s.now c.args.table.now c.requires.1)
 
 pub loop-j-init : goal.loop-j-init
 loop-j-init c =
-    let e = array_entry c.args.ranks.now c.args.s.now c.args.table.now c.requires.2 c.args.i c.requires.1 in
-    let r = length_ranked c.args.ranks.now c.args.s.now in
-    (equal_start (ranked c.args.ranks.now c.args.s.now) c.args.i _ (rw r c.requires.1) e, r)
+    let e = array_entry c.args.ranks.list.now c.args.s.now c.args.table.now c.requires.1 c.args.i c.requires.0 in
+    let r = length_ranked c.args.ranks.list.now c.args.s.now in
+    (equal_start (ranked c.args.ranks.list.now c.args.s.now) c.args.i _ (rw r c.requires.0) e, r)
 
 pub bounds-table-j : goal.bounds-table-j
 bounds-table-j c =
-    omega (arith, array_room c.args.ranks.now c.args.s.now c.args.table.now c.requires.2)
+    omega (arith, array_room c.args.ranks.list.now c.args.s.now c.args.table.now c.requires.1)
 
 pub returns-then-table-j : goal.returns-then-table-j
 returns-then-table-j c =
-    let e = array_entry c.args.ranks.now c.args.s.now c.args.table.now c.requires.2 c.loop-j.j (search rules) in
+    let e = array_entry c.args.ranks.list.now c.args.s.now c.args.table.now c.requires.1 c.loop-j.j (search rules) in
     stop_length c.loop-j.invariant.0 (search rules) e c.if-table-j.true
 
 pub slice_bounds-agree-end-in-loop-j : goal.slice_bounds-agree-end-in-loop-j
 slice_bounds-agree-end-in-loop-j c =
-    omega (arith, array_fits c.args.ranks.now c.args.s.now c.args.table.now c.requires.2 c.loop-j.j (search rules))
+    omega (arith, array_fits c.args.ranks.list.now c.args.s.now c.args.table.now c.requires.1 c.loop-j.j (search rules))
 
 pub returns-then-not-agree : goal.returns-then-not-agree
 returns-then-not-agree c =
-    let e = array_entry c.args.ranks.now c.args.s.now c.args.table.now c.requires.2 c.loop-j.j (search rules) in
+    let e = array_entry c.args.ranks.list.now c.args.s.now c.args.table.now c.requires.1 c.loop-j.j (search rules) in
     let b : Bytes c.args.s.now = λ k h. omega (arith, c.type_inv.s k) in
-    let parts = same_words c.requires.0 c.args.s.now b c.args.i c.loop-j.j (get_or c.args.table.now c.args.i 0) in
+    let parts = same_words c.args.ranks.known c.args.s.now b c.args.i c.loop-j.j (get_or c.args.table.now c.args.i 0) in
     stop_word c.loop-j.invariant.0 (search rules) e (search rules) (c.agree.ensures ∙ parts) c.if-not-agree.true
 
 pub loop-j-preserved : goal.loop-j-preserved
 loop-j-preserved c =
-    let e = array_entry c.args.ranks.now c.args.s.now c.args.table.now c.requires.2 c.loop-j.j (search rules) in
+    let e = array_entry c.args.ranks.list.now c.args.s.now c.args.table.now c.requires.1 c.loop-j.j (search rules) in
     let b : Bytes c.args.s.now = λ k h. omega (arith, c.type_inv.s k) in
-    let parts = same_words c.requires.0 c.args.s.now b c.args.i c.loop-j.j (get_or c.args.table.now c.args.i 0) in
+    let parts = same_words c.args.ranks.known c.args.s.now b c.args.i c.loop-j.j (get_or c.args.table.now c.args.i 0) in
     (equal_turn c.loop-j.invariant.0 (search rules) e (search rules) (c.agree.ensures ∙ parts) c.if-not-agree.false, c.loop-j.invariant.1)
 
 pub returns : goal.returns

@@ -7,7 +7,7 @@ use Rattle.suffix_chain.proofs.After.{Equal}
 use Rattle.suffix_chain.proofs.group_at.Given as goal
 
 abbrev pub invariant-loop-j : goal.invariant-loop-j
-invariant-loop-j l = Equal (ranked l.ranks l.s) l.i l.length l.power l.j × (size (ranked l.ranks l.s) ≡ size l.s)
+invariant-loop-j l = Equal (ranked l.ranks.list.now l.s) l.i l.length l.power l.j × (size (ranked l.ranks.list.now l.s) ≡ size l.s)
 
 abbrev pub decreases-loop-j : goal.decreases-loop-j
 decreases-loop-j l = size l.s - l.j

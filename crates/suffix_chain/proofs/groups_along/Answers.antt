@@ -9,6 +9,6 @@ use Rattle.suffix_chain.proofs.groups_along.Goals as goal
 pub returns : goal.returns
 returns c =
     let a = c.args in
-    let e = length_ranked a.ranks.now a.s.now in
+    let e = length_ranked a.ranks.list.now a.s.now in
     let m = c.min-at.ensures in
-    (refl, refl, groups_start (ranked a.ranks.now a.s.now) a.start c.min-at.result (λ h. omega (arith, e, m)) (λ h. omega (arith, e, m)))
+    (refl, refl, groups_start (ranked a.ranks.list.now a.s.now) a.start c.min-at.result (λ h. omega (arith, e, m)) (λ h. omega (arith, e, m)))

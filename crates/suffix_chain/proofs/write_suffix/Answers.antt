@@ -15,16 +15,16 @@ use Rattle.suffix_chain.proofs.write_suffix.Goals as goal
 pub loop-g-init : goal.loop-g-init
 loop-g-init c =
     let a = c.args in
-    let s = ranked a.ranks.now a.s.now in
+    let s = ranked a.ranks.list.now a.s.now in
     let gs = suffix_groups s a.start in
     let it = c.into_iter-g-iterator.result in
-    let q : ranked it.ranks.now it.s.now ≡ s = cc in
-    let e : suffix_groups (ranked it.ranks.now it.s.now) it.at ≡ gs = cc in
-    let n : length (ranked it.ranks.now it.s.now) ≡ length it.s.now = length_ranked it.ranks.now it.s.now in
+    let q : ranked it.ranks.list.now it.s.now ≡ s = cc in
+    let e : suffix_groups (ranked it.ranks.list.now it.s.now) it.at ≡ gs = cc in
+    let n : length (ranked it.ranks.list.now it.s.now) ≡ length it.s.now = length_ranked it.ranks.list.now it.s.now in
     let w : it.at ≤ length s = omega (arith, it.within, rw q at n) in (
       rw q (left_from s it.at w),
       rw e (wrote_none (group_numbers gs) a.row.now (omega (arith, length_numbers gs))),
-      length_ranked a.ranks.now a.s.now,
+      length_ranked a.ranks.list.now a.s.now,
     )
 
 pub write_group-requires : goal.write_group-requires

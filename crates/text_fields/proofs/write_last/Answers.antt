@@ -3,5 +3,4 @@ use Rattle.text_fields.proofs.Last.{last_put}
 use Rattle.text_fields.proofs.write_last.Goals as goal
 
 pub returns : goal.returns
-returns c =
-    last_put c.args.n c.args.buffer.now c.args.at c.requires c.write_decimal-end.ensures c.write_bytes.ensures
+returns c = last_put c.args.n c.requires c.byte.ensures c.write_decimal.ensures c.bytes.ensures

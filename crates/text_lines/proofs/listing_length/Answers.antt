@@ -8,9 +8,9 @@ use Rattle.text_lines.proofs.listing_length.Goals as goal
 pub overflow_add-result : goal.overflow_add-result
 overflow_add-result c =
     let a = c.args in
-    omega (arith, suffix_most a.ranks.now a.s.now 0 (search rules) (search rules))
+    omega (arith, suffix_most a.ranks.list.now a.s.now 0 (search rules) (search rules))
 
 pub returns : goal.returns
 returns c =
     let a = c.args in
-    omega (arith, listing_length a.ranks.now a.s.now)
+    omega (arith, listing_length a.ranks.list.now a.s.now)

@@ -1,42 +1,33 @@
--- `text_lines::write_lines` meets its contract: what is still to be written are the lines of the groups that are left.
-use mathlib.Core.Path.{ap}
-use native.Mathlib.Omega.{arith}
+-- `text_lines::write_lines` meets its contract: what is still to be written are the lines that are left.
+use Rattle.std.proofs.Common.{◌≡◌, ap}
 use Rattle.ranks.specs.Ranks.{ranked}
-use Rattle.ranks.proofs.Ranked.{length_ranked}
+use Rattle.words.specs.Factors.{join}
 use Rattle.words.specs.Tables.{suffix_groups}
-use Rattle.rows.proofs.Puts.{putting_none, putting_all}
-use Rattle.scan.proofs.Next.{suffix_end}
+use Rattle.rows.proofs.Writing.{writing_none, writing_fits, writing_part, writing_all}
 use Rattle.text.specs.Listing.{lines}
-use Rattle.text_lines.proofs.Lines.{line_room, line_turn}
-use borrow.Author.Rules.{rules}
+use Rattle.text_lines.specs.Texts.{line_texts}
+use Rattle.text_lines.proofs.Lines.{lines_joined}
 use Rattle.text_lines.proofs.write_lines.Goals as goal
 
-pub loop-start-init : goal.loop-start-init
-loop-start-init c =
-    let a = c.args in (
-      search rules,
-      c.group_from-g.ensures,
-      putting_none (lines a.s.now (suffix_groups (ranked a.ranks.now a.s.now) a.from)) a.buffer.now a.at (search rules),
-      length_ranked a.ranks.now a.s.now,
-    )
+pub loop-line-init : goal.loop-line-init
+loop-line-init c =
+    let a = c.args in
+    let gs = suffix_groups (ranked a.ranks.list.now a.s.now) a.from in
+    let it = c.into_iter-line-iterator.result in
+    let e : line_texts it.s.now (suffix_groups (ranked it.ranks.list.now it.s.now) it.at) ≡ line_texts a.s.now gs = cc in
+    rw (e, lines_joined a.s.now gs) (writing_none (lines a.s.now gs) a.out.now c.requires.1)
 
-pub write_line-next-requires : goal.write_line-next-requires
-write_line-next-requires c =
-    let g = c.loop-start.invariant.1.group (search rules) in
-    line_room c.args.s.now c.loop-start.invariant.3 g c.group_from-h.ensures c.shared_length-shared.ensures c.loop-start.invariant.2
+pub write_line-requires : goal.write_line-requires
+write_line-requires c =
+    let e = ap join c.in-Some.ensures.steps in
+    writing_fits _ _ (rw e at c.loop-line.invariant)
 
-pub loop-start-preserved : goal.loop-start-preserved
-loop-start-preserved c =
-    let next = c.group_from-h.ensures in
-    let g = c.loop-start.invariant.1.group (search rules) in (
-      omega (arith, g.fits),
-      next,
-      line_turn c.args.s.now c.loop-start.invariant.3 g next c.shared_length-shared.ensures c.loop-start.invariant.2 c.write_line-next.ensures,
-      c.loop-start.invariant.3,
-    )
+pub loop-line-preserved : goal.loop-line-preserved
+loop-line-preserved c =
+    let e = ap join c.in-Some.ensures.steps in
+    writing_part _ _ (rw e at c.loop-line.invariant) c.write_line.ensures
 
 pub returns : goal.returns
 returns c =
-    let a = c.args in
-    let none = ap (lines a.s.now) (suffix_end (ranked a.ranks.now a.s.now) c.loop-start.start (search rules)) in
-    putting_all (omega arith) (rw none at c.loop-start.invariant.2)
+    let none = ap join c.in-None.ensures.steps.0 in
+    writing_all (rw none at c.loop-line.invariant)

@@ -10,7 +10,7 @@ use Rattle.prefix_chain.proofs.GroupsBackIterator.next.Goals as goal
 pub returns-then-self-eq0-clause-steps : goal.returns-then-self-eq0-clause-steps
 returns-then-self-eq0-clause-steps c =
     let it = c.args.self.now in
-    let e = ap (λ t. reverse t) (prefix_none (ranked it.ranks.now it.s.now) it.end (search rules)) in
+    let e = ap (λ t. reverse t) (prefix_none (ranked it.ranks.list.now it.s.now) it.end (search rules)) in
     (e, e)
 
 pub overflow_mul-start : goal.overflow_mul-start

@@ -3,8 +3,9 @@ use mathlib.Core.List.{List, ◌++◌}
 use Prim.Native.Nat.{ℕ, ◌≤◌, ◌<◌}
 use native.Mathlib.Omega.{arith}
 use lib.ListN.{length, length-append}
-use Rattle.rows.specs.Written.{Room, Puts}
-use Rattle.rows.proofs.Puts.{puts_then}
+use Rattle.rows.specs.Written.{Room, Fits, Writes}
+use Rattle.rows.specs.declared.Writer.{Writer}
+use Rattle.rows.proofs.Writing.{writes_then}
 use Rattle.decimal.specs.Decimal.{codes}
 use Rattle.text.specs.Hexadecimal.{hexadecimal}
 use Rattle.text.specs.Listing.{field, last_field, line, refusal_text}
@@ -13,27 +14,28 @@ use Rattle.refusals.specs.Answers.{number_of}
 use Rattle.refusals.specs.declared.Refusal as call
 use Rattle.refusals.specs.declared.Refusal.TheVariants.{PatternTooLong, PastEnd, BlockTooLong, EditedTooLong, NotTheTable, WordTooLong, NotLyndon, RowTooShort, NotABlock, Repeated, WantedTooLong, NoPattern, NotAnOrder}
 
-pub line_put : (start power : ℕ) (word : List ℕ) (column : ℕ) (d : List ℕ) (i : ℕ) {b₁ b₂ b₃ b₄ b₅ : List ℕ} {n₁ n₂ n₃ n₄ n₅ : ℕ}
-    → Room (line start (length word) power word column) i d → Puts (field start) i d b₁ n₁ → Puts (field (length word)) n₁ b₁ b₂ n₂
-    → Puts (field power) n₂ b₂ b₃ n₃ → Puts (hexadecimal word) n₃ b₃ b₄ n₄ → Puts (last_field column) n₄ b₄ b₅ n₅
-    → Puts (line start (length word) power word column) i d b₅ n₅
+-- a line, field by field
+pub line_put : (start power : ℕ) (word : List ℕ) (column : ℕ) {w w₁ w₂ w₃ w₄ w₅ : Writer} → Fits (line start (length word) power word column) w
+    → Writes (field start) w w₁ → Writes (field (length word)) w₁ w₂ → Writes (field power) w₂ w₃ → Writes (hexadecimal word) w₃ w₄
+    → Writes (last_field column) w₄ w₅ → Writes (line start (length word) power word column) w w₅
 unfolding line
-line_put start power word column d i h p₁ p₂ p₃ p₄ p₅ =
+line_put start power word column h p₁ p₂ p₃ p₄ p₅ =
     let n = line_parts start power word column in
     let two = field start ++ field (length word) in
     let three = two ++ field power in
     let m₂ = length-append (field start) (field (length word)) in
     let m₃ = length-append two (field power) in
     let m₄ = length-append three (hexadecimal word) in
-    let q₂ = puts_then p₁ p₂ (omega arith) in
-    let q₃ = puts_then q₂ p₃ (omega arith) in
-    let q₄ = puts_then q₃ p₄ (omega arith) in
-    puts_then q₄ p₅ (omega arith)
+    let q₂ = writes_then p₁ p₂ (omega arith) in
+    let q₃ = writes_then q₂ p₃ (omega arith) in
+    let q₄ = writes_then q₃ p₄ (omega arith) in
+    writes_then q₄ p₅ (omega arith)
 
-pub refusal_put : (number : ℕ) (d : List ℕ) {b₁ b₂ : List ℕ} {n₁ n₂ : ℕ} → Room (refusal_text number) 0 d
-    → Puts (codes "refused") 0 d b₁ n₁ → Puts (last_field number) n₁ b₁ b₂ n₂ → Puts (refusal_text number) 0 d b₂ n₂
+-- the refusal line
+pub refusal_put : (number : ℕ) {w w₁ w₂ : Writer} → Fits (refusal_text number) w → Writes (codes "refused") w w₁ → Writes (last_field number) w₁ w₂
+    → Writes (refusal_text number) w w₂
 unfolding refusal_text
-refusal_put number d h p₁ p₂ = puts_then p₁ p₂ (omega (arith, refusal_parts number))
+refusal_put number h p q = writes_then p q (omega (arith, h, refusal_parts number))
 
 -- the number of a call's refusal is not 0, and its line is short
 pub number_within : (e : call.Refusal) → (0 < number_of e) × (number_of e < 256)

@@ -1,8 +1,8 @@
--- That ranks are those of an order, or none, has one proof at most: a ghost field asks for this.
+-- That ranks are those of an order, or none, has one proof at most, and so has that symbols are bytes: a ghost field asks for this.
 use mathlib.Core.Logic.{◌⊎◌, inl, inr}
 use mathlib.Core.Path.{◌≡◌, ap}
 use Rattle.std.specs.Prelude.{List, ℕ, ◌<◌, length}
-use Rattle.ranks.specs.Ranks.{rank}
+use Rattle.ranks.specs.Ranks.{Bytes, rank}
 use Rattle.ranks.specs.Inner.{Ranks}
 use native.Mathlib.Omega.{arith}
 use denote.Struct.Props.{props}
@@ -25,3 +25,6 @@ ranks_prop ranks x y =
       size = size x.size y.size i;
       apart = apart x.apart y.apart i;
     }
+
+pub bytes_prop : (s : List ℕ) → IsProp (Bytes s)
+bytes_prop s = Prim.hlevel props
