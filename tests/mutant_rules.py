@@ -49,21 +49,29 @@ def struct_fields():
 
 
 def places_of(crate, fields):
-    """The functions and constants of a crate, in the order of its files."""
+    """The functions, methods and constants of a crate, in the order of its files."""
     for path in sorted((ROOT / "crates" / crate / "src").glob("*.rt")):
         lines = path.read_text().split("\n")
         head = None
+        law = False
         for at, line in enumerate(lines):
+            # what a trait's method promises is its impl's law
+            if line.startswith("impl"):
+                law = False
+            elif re.match(r" +ghost \w+ = \{", line):
+                law = True
             const = re.match(r"(?:pub )?const (\w+):", line)
             if const and (path.parent / "lib.rt").exists():
                 yield Place(crate, path, const[1], at, at + 1, True, {})
-            if re.match(r"(pub )?(extern \"C\" )?fn \w+", line):
+            # a method stands further in, in its impl
+            if start := re.match(r"( *)(pub(\(crate\))? )?(extern \"C\" )?fn \w+", line):
                 head = at
                 body = None
-            if head is not None and body is None and (line == "{" or re.match(r"(pub |extern |fn |\)).*\{$", line)):
+                edge = start[1]
+            if head is not None and body is None and (line == edge + "{" or re.match(edge + r"(pub\b|extern |fn |\)).*\{$", line)):
                 body = at + 1
-            if head is not None and line == "}":
-                contract = any(row.strip().startswith("ensures") for row in lines[head:body])
+            if head is not None and line == edge + "}":
+                contract = any(row.strip().startswith("ensures") for row in lines[head:body]) or (edge != "" and law)
                 name = re.search(r"fn (\w+)", lines[head])[1]
                 types = local_types(lines[head:body], lines[body:at], fields)
                 yield Place(crate, path, name, body, at, contract, types)

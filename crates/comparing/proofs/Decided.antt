@@ -6,12 +6,12 @@ use mathlib.Core.Path.{◌≡◌, refl, ap, sym, ◌∙◌}
 use Prim.Native.Nat.{ℕ, ◌+◌, ◌≤◌, ◌<◌, min}
 use native.Mathlib.Omega.{arith}
 use lib.ListN.{length, take, drop, get_or, drop_of_length-le}
-use lib.Seq.{drop-cons}
-use lib.Dec.{ltb}
-use borrow.Author.Tests.{lt-ltb, le-ltb, ne_eqb}
-use Rattle.words.specs.Order.{less, smaller, shared}
-use Rattle.words.proofs.Bounded.{le_or_lt}
-use Rattle.words.proofs.Order.{ThreeN, smaller_n, equal_n, greater_n, three_n}
+use lib.Seq.{drop-cons, take_all}
+use lib.Dec.{ltb, eqb}
+use borrow.Author.Tests.{lt-ltb, le-ltb, eq-eqb, ne_eqb}
+use Rattle.words.specs.Order.{less, same, smaller, shared}
+use Rattle.words.proofs.Bounded.{le_or_lt, le_cases}
+use Rattle.words.proofs.Order.{ThreeN, smaller_n, equal_n, greater_n, three_n, true_same, false_same}
 use Rattle.ranks.specs.Inner.{Ranks}
 use Rattle.ranks.specs.Ranks.{rank, ranked}
 use Rattle.ranks.proofs.Ranked.{length_ranked, get_or_ranked, ranked_take}
@@ -122,6 +122,21 @@ smaller_ordering x y = go (less x y) (less y x)
     go true u = refl
     go false true = refl
     go false false = refl
+
+-- two strings of one length are the same where they share all of it
+pub same_lengths : (a b : List ℕ) → (length a ≡ length b → ⊥) → same a b ≡ false
+same_lengths a b h = false_same a b (λ e. h (ap length e))
+
+pub same_shared : {a b : List ℕ} {k : ℕ} → SharedTold a b k → length a ≡ length b → eqb k (length a) ≡ same a b
+same_shared {a} {b} {k} t e = go (le_cases t.first)
+  where
+    go : (k ≡ length a) ⊎ (k < length a) → eqb k (length a) ≡ same a b
+    go (inl q) =
+        let r : a ≡ b = sym (take_all k a (omega arith)) ∙ t.agree ∙ take_all k b (omega arith) in
+        eq-eqb k (length a) q ∙ sym (true_same a b r)
+    go (inr l) =
+        ne_eqb k (length a) (λ q. omega arith)
+        ∙ sym (false_same a b (λ r. t.differ l (omega arith) (ap (λ u. get_or u k 0) r)))
 
 pub compared_smaller : (o a b : List ℕ) {r : Compared} → r ≡ compared o a b → smaller_of r.ordering ≡ smaller (ranked o a) (ranked o b)
 unfolding compared

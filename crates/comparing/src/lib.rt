@@ -87,7 +87,11 @@ pub fn compare(a: &[u8], b: &[u8], ranks: Ranking) -> Compared
 pub fn agree(a: &[u8], b: &[u8]) -> bool
     ensures { result ≡ same a.now b.now }
 {
-    a == b
+    // no `==` of slices: it is a second comparison, and the one in `shared_bytes` tells it as well
+    if a.len() != b.len() {
+        return false;
+    }
+    shared_bytes(a, b) == a.len()
 }
 
 // The shared length of two parts of a pattern, of m bytes from i on and of n bytes from j on.

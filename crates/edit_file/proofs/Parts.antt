@@ -2,18 +2,14 @@
 use mathlib.Core.Bool.{Bool, true, false}
 use mathlib.Core.List.{List, ◌∷◌, ◌++◌}
 use mathlib.Core.Path.{◌≡◌, sym, ap, ◌∙◌}
-use Prim.Native.Nat.{ℕ, ◌-◌, ◌≤◌, ◌<◌}
+use Prim.Native.Nat.{ℕ, ◌-◌}
 use native.Mathlib.Omega.{arith}
-use lib.ListN.{length, take, drop, get_or, length-drop, take-append-drop}
-use lib.Seq.{take_all, length-take-le}
-use Rattle.std.specs.Prelude.{min}
+use lib.ListN.{length, take, drop, length-drop, take-append-drop}
+use lib.Seq.{take_all}
 use Rattle.words.specs.Order.{same}
-use Rattle.agreeing.specs.Agrees.{Agreed}
-use Rattle.comparing.specs.Compared.{SharedTold}
-use Rattle.comparing.proofs.Decided.{shared_told}
-use Rattle.words.proofs.Order.{same_true, same_false, true_same, false_same}
+use Rattle.words.proofs.Order.{same_true, same_false}
 use Rattle.decimal.specs.Decimal.{codes}
-use Rattle.edit_file.specs.EditFile.{header, EditFile}
+use Rattle.edit_file.specs.EditFile.{EditFile}
 use Rattle.edit_file.specs.Fields.{Closes}
 use Rattle.edit_file.proofs.Only.{front_only}
 
@@ -23,24 +19,6 @@ differ {x} {y} e t = same_false x y (sym e ∙ t)
 
 pub equal : {x y : List ℕ} {b : Bool} → b ≡ same x y → b ≡ true → x ≡ y
 equal {x} {y} e t = same_true x y (sym e ∙ t)
-
--- the first k bytes of a file agree with the header, and no more
-module _ (bytes : List ℕ) {k : ℕ} (h : 9 ≤ length bytes) (a : Agreed (take 9 bytes) 0 header 0 0 9 k) where
-  long : length (take 9 bytes) ≡ 9
-  long = length-take-le 9 bytes h
-
-  told : SharedTold (take 9 bytes) header k
-  told =
-      let e : min (length (take 9 bytes)) (length header) ≡ 9 = omega (arith, long) in
-      shared_told {m = 0} (rw e a)
-
-  pub header_not : k < 9 → false ≡ same (take 9 bytes) header
-  header_not l = sym (false_same (take 9 bytes) header (λ e. told.differ (omega (arith, long)) (omega arith) (ap (λ u. get_or u k 0) e)))
-
-  pub header_is : 9 ≤ k → true ≡ same (take 9 bytes) header
-  header_is l =
-      let front = take_all k (take 9 bytes) (omega (arith, long)) in
-      sym (true_same (take 9 bytes) header (sym front ∙ told.agree ∙ take_all k header (omega arith)))
 
 -- what a slice holds from place i on
 abbrev pub tail : ℕ → List ℕ → List ℕ

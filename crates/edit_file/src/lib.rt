@@ -6,7 +6,7 @@ ghost use Rattle.words.specs.Order.{same};
 ghost use Rattle.edit_file.specs.EditFile.{header, Answers};
 ghost use Rattle.edit_file.specs.Fields.{FieldOf};
 
-use comparing::{agree, agree_bytes};
+use comparing::agree;
 use decimal::{leading_digits, value_of};
 
 // The stretch that an edit replaces, as the file says it.
@@ -51,16 +51,12 @@ fn first_field(text: &[u8], close: u8) -> Option<Closed>
     })
 }
 
-// Whether a file begins with the header, byte by byte: compared as a slice it would stand in read-only memory, which is short.
+// Whether a file begins with the header.
 fn has_header(bytes: &[u8]) -> bool
     requires { length header ≤ length bytes.now }
     ensures { result ≡ same (take (length header) bytes.now) header }
 {
-    let size = HEADER.len();
-    if agree_bytes(&bytes[..size], 0, &HEADER, 0, 0, size) < size {
-        return false;
-    }
-    true
+    agree(&bytes[..HEADER.len()], &HEADER)
 }
 
 // The two numbers that the file says.

@@ -18,6 +18,7 @@ use Rattle.longest.proofs.Seen.{length_run}
 
 -- k of a group's starts stand in the row from place `at` on; i is the next
 pub record Run (d row : List ℕ) (at start size power k i : ℕ) : Type 0 where
+  pub upto : k ≤ power
   pub place : i + (power - k) * size ≡ start + power * size
   pub wrote : Wrote (take at d ++ run_from start size power) d row (at + k) (run_from i size (power - k))
 
@@ -26,6 +27,7 @@ run_none d at start size power h =
     let z : power - 0 ≡ power = omega arith in
     let e : at + 0 ≡ at = omega arith in
     record {
+      upto = omega arith;
       place = rw z refl;
       wrote = rw (z, e) (wrote_from at (run_from start size power) d (omega (arith, length_run start size power)));
     }
@@ -40,7 +42,7 @@ module _ {d row : List ℕ} {at start size power k i : ℕ} (w : Run d row at st
   pub run_one : Run d (set row (at + k) i) at start size power (k + 1) (i + size)
   run_one =
       let f : at + k + 1 ≡ at + (k + 1) = omega arith in
-      record { place = omega (arith, rw left at w.place); wrote = rw f at (wrote_one (rw left at w.wrote)) }
+      record { upto = omega arith; place = omega (arith, rw left at w.place); wrote = rw f at (wrote_one (rw left at w.wrote)) }
 
 -- the starts of the groups before place i stand in the row, and the others are left
 module _ {s : List ℕ} {size i l e : ℕ} (g : NextGroup s i l e) where

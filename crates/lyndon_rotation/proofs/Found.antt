@@ -16,12 +16,12 @@ use Rattle.words.proofs.UniqueLeast.{unique_least}
 use Rattle.words.specs.Rotation.{least_rotation, repeated}
 use Rattle.lyndon_rotation.specs.Calls.{rotation_refusals, RotationFound}
 
-module _ {order ranks : List ℕ} (t : Handed order ranks) (s : List ℕ) where
-  rotation_refused : {k : ℕ} → First (rotation_refusals s order) (suc k) → RotationFound s order (record { refusal = suc k; start = 0 })
-  rotation_refused {k} f =
-      let e = sym (first_is f) in
-      record { refusal = e; start = ap (λ n. unless_refused n (least_rotation (ranked order s)) 0) e; unique = λ z. absurd (omega (arith, z)) }
+rotation_refused : {order s : List ℕ} {k : ℕ} → First (rotation_refusals s order) (suc k) → RotationFound s order (record { refusal = suc k; start = 0 })
+rotation_refused {order} {s} {k} f =
+    let e = sym (first_is f) in
+    record { refusal = e; start = ap (λ n. unless_refused n (least_rotation (ranked order s)) 0) e; unique = λ z. absurd (omega (arith, z)) }
 
+module _ {order ranks : List ℕ} (t : Handed order ranks) (s : List ℕ) where
   pub rotation_long : max_pattern < length s → RotationFound s order (record { refusal = 1; start = 0 })
   rotation_long h = rotation_refused (an_order t (too_long s h))
 

@@ -2,9 +2,9 @@
 -- order, which ranks every pattern as they do.
 use mathlib.Core.List.{List, [], ◌∷◌}
 use mathlib.Core.Path.{◌≡◌, sym, ap, ◌∙◌}
-use Prim.Native.Nat.{ℕ, zero, suc, ◌+◌, ◌≤◌}
+use Prim.Native.Nat.{ℕ, zero, suc, ◌+◌, ◌-◌, ◌≤◌}
 use native.Mathlib.Omega.{arith}
-use lib.ListN.{length}
+use lib.ListN.{length, take, drop}
 use Rattle.longest.specs.Best.{Measures, longest_of}
 use Rattle.longest.specs.declared.Longest.{Longest}
 use Rattle.ranks.proofs.Ranked.{length_ranked}
@@ -15,7 +15,7 @@ use Rattle.refusals.specs.Refusals.{first_of, unless_refused, max_pattern, not_o
 use Rattle.words.proofs.Longest.{longest_word_lem}
 use Rattle.words.proofs.Substrings.{longest_listed}
 use Rattle.words.specs.Tables.{lyndon_starts, longest, longest_starts, longest_word}
-use Rattle.lyndon_trigger.specs.Calls.{word_place}
+use Rattle.lyndon_trigger.specs.Calls.{word_place, WordCut}
 
 module _ {order ranks : List ℕ} (t : Handed order ranks) (s : List ℕ) where
   pub place_found : Bytes s → length s ≤ max_pattern → (found : Longest) (run : ℕ) → Measures (ranked ranks s) found run
@@ -38,3 +38,11 @@ module _ (s order : List ℕ) (start size : ℕ) (is : (start, size) ≡ word_pl
       go : (k : ℕ) → (start, size) ≡ unless_refused k (longest_word (ranked order s)) (0, 0) → start + size ≤ length s
       go zero e = omega (arith, word_within (ranked order s), length_ranked order s, ap (λ p. p.0) e, ap (λ p. p.1) e)
       go (suc k) e = omega (arith, ap (λ p. p.0) e, ap (λ p. p.1) e)
+
+  pub word_cut : (at : ℕ × ℕ) → WordCut s order at (take (start + size - start) (drop start s)) (at.0, start + at.1)
+  word_cut at =
+      let n : start + size - start ≡ size = omega arith in
+      record {
+        bytes = ap (λ k. take k (drop start s)) n ∙ ap (λ p. take p.1 (drop p.0 s)) is;
+        place = ap (λ p. (at.0, p.0 + at.1)) is;
+      }

@@ -1,11 +1,14 @@
--- Blocks in which no eight bytes c begin and no rank is below that of c, and what they give Duval's scan of the ranks.
+-- Blocks in which no eight bytes c begin and no rank is below that of c: one more rank, and what they give Duval's scan of the ranks.
+use mathlib.Core.Bool.{Bool, true, ◌&&◌}
 use mathlib.Core.List.{List}
 use mathlib.Core.Logic.{◌⊎◌, inl, inr}
 use mathlib.Core.Path.{◌≡◌, sym, ap, ◌∙◌}
 use Prim.Native.Nat.{ℕ, ◌+◌, ◌-◌, ◌≤◌, ◌<◌}
 use native.Mathlib.Omega.{arith}
 use lib.ListN.{length, get_or}
-use Rattle.words.proofs.Bounded.{le_cases}
+use lib.Dec.{leb}
+use borrow.Author.Tests.{leb-true}
+use Rattle.words.proofs.Bounded.{le_cases, and_true}
 use Rattle.words.proofs.Scan.{Scan, scan_grow}
 use Rattle.ranks.specs.Inner.{Ranks}
 use Rattle.ranks.specs.Ranks.{Bytes, rank, ranked}
@@ -14,6 +17,16 @@ use Rattle.above.specs.Above.{Above}
 use Rattle.rising.specs.Risen.{Run, Breaks, Risen}
 use Rattle.rising.proofs.Rising.{above_below, grow_runs}
 use Rattle.rank_leaps.specs.Broken.{Broken, AtLeast}
+
+-- one more number tested; `all` says whether all before it passed
+pub least_test : {s : List ℕ} {d j k : ℕ} (all : Bool) → (all ≡ true → AtLeast s d j k) → (all && leb d (get_or s k 0)) ≡ true → AtLeast s d j (k + 1)
+least_test {s} {d} {j} {k} all g e =
+    let (p, q) = and_true all (leb d (get_or s k 0)) e in
+    record { at = λ t h l. go t h (le_cases {a = t} {b = k} (omega arith)) (g p) (leb-true d (get_or s k 0) q) }
+  where
+    go : (t : ℕ) → j ≤ t → (t ≡ k) ⊎ (t < k) → AtLeast s d j k → d ≤ get_or s k 0 → d ≤ get_or s t 0
+    go t h (inl q) r l = rw q l
+    go t h (inr q) r l = r.at t h q
 
 -- bytes that are c have the rank of c, and no others
 module _ (o s : List ℕ) (c : ℕ) (v : Ranks o) (bytes : Bytes s) (byte : c < 256) where

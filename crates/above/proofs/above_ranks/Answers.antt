@@ -1,10 +1,12 @@
-use Rattle.std.proofs.Common.{◌+◌, refl, arith}
-use Rattle.std.proofs.lemmas.Grind.{common_steps}
+-- `above::above_ranks` meets its contract: where the ranks of all bytes before place u passed, they are above d.
+use Rattle.std.proofs.Common.{◌≡◌, ◌+◌, refl, arith}
 use Rattle.ranks.proofs.Ranked.{entry_ranked}
+use Rattle.above.proofs.Beyond.{above_test}
 use Rattle.above.proofs.above_ranks.Goals as goal
 
 pub loop-u-preserved : goal.loop-u-preserved
 loop-u-preserved c =
     let a = c.args in
     let x = entry_ranked a.ranks.now a.s.now (a.j + c.loop-u.u) c.from-at.result _ c.requires.0 (omega arith) c.from-at.ensures (omega arith) refl in
-    grind (arith, common_steps)
+    let e : a.j + (c.loop-u.u + 1) ≡ a.j + c.loop-u.u + 1 = omega arith in
+    λ t. rw e (above_test c.loop-u.all c.loop-u.invariant (rw (← x) t))

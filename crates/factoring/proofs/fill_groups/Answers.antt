@@ -6,8 +6,9 @@ use Rattle.words.specs.Factors.{group_numbers}
 use Rattle.words.specs.Tables.{suffix_groups}
 use Rattle.rows.proofs.Wrote.{wrote_none, wrote_all, wrote_count, wrote_length}
 use Rattle.scan.proofs.Left.{left_from, left_turn, left_next}
-use Rattle.scan.proofs.Pass.{write_turn, length_numbers}
+use Rattle.scan.proofs.Pass.{length_numbers}
 use Rattle.scan.proofs.Pass.{length_fits, power_fits, group_room}
+use Rattle.factoring.proofs.Turn.{group_written}
 use native.Mathlib.Omega.{arith}
 use Rattle.factoring.proofs.fill_groups.Goals as goal
 
@@ -40,7 +41,7 @@ pub loop-g-preserved : goal.loop-g-preserved
 loop-g-preserved c =
     let l = c.loop-g.invariant in
     let t = left_turn l.0 c.in-Some.ensures.steps in
-    (left_next t, rw (c.write_group.ensures, t.after) (write_turn t.group (rw t.before at l.1)), l.2)
+    (left_next t, rw t.after (group_written t.group (rw t.before at l.1) c.write_group.ensures), l.2)
 
 pub shape_of-row : goal.shape_of-row
 shape_of-row c = wrote_length c.loop-g.invariant.1

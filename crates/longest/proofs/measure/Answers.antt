@@ -26,7 +26,8 @@ pub loop-g-preserved : goal.loop-g-preserved
 loop-g-preserved c =
     let l = c.loop-g.invariant in
     let t = left_turn l.0 c.in-Some.ensures.steps in
-    (left_next t, rw (c.better-best.ensures, c.first_run-run.ensures) (measured_more (rw t.place at l.1) t.group), l.2)
+    let m = measured_more (rw t.place at l.1) t.group in
+    (left_next t, rw c.better-best.ensures (rw c.first_run-run.ensures m), l.2)
 
 pub returns : goal.returns
 returns c =

@@ -5,6 +5,7 @@ use Rattle.text_lines.proofs.Lines.{listing_most}
 use Rattle.text.specs.Listing.{listing_by}
 use Rattle.lyndon_text.proofs.Listed.{listed_short, listed}
 use Rattle.lyndon_text.proofs.write_listing.Goals as goal
+use Rattle.lyndon_text.proofs.write_listing.Goals.{then-text-pattern+else-text-count, else-text-pattern}
 
 pub returns-then-text-count : goal.returns-then-text-count
 returns-then-text-count c =
@@ -16,7 +17,10 @@ write_text-requires c =
     let a = c.args in
     let ranks = c.in_ok-ranks.ranks.list.now in
     let room : length (listing_by ranks a.pattern.now) ≤ length a.text.now =
-    grind (arith, listing_most ranks a.pattern.now (search rules)) in
+    elim c.if-text-pattern.branch [
+      | then-text-pattern+else-text-count w ↦ omega (arith, w.listing_length-count.ensures, w.if-text-count.false)
+      | else-text-pattern w ↦ omega (arith, w.if-text-pattern.false, listing_most ranks a.pattern.now (search rules))
+    ] in
     omega (arith, room)
 
 pub returns : goal.returns

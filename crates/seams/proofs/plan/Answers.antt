@@ -28,8 +28,8 @@ pub returns : goal.returns
 returns c =
     let b = ap (λ l. c.args.edit.from + l) (sym (length_ranked c.args.ranks.list.now c.args.edit.block.now)) in
     elim c.if-stored-ends.branch [
-      | then-stored-ends w ↦ rw w.kept-is
+      | then-stored-ends w ↦ rw (← ap (λ k. k.0) w.kept-is, ← ap (λ k. k.1) w.kept-is) at
           (planned_old c.requires b c.stored_ends-stored.ensures c.survey-seen.ensures w.if-stored-ends.true (rw w.kept-is at c.groups_between.ensures))
-      | else-stored-ends w ↦ rw w.kept-is
+      | else-stored-ends w ↦ rw (← ap (λ k. k.0) w.kept-is, ← ap (λ k. k.1) w.kept-is) at
           (planned_new c.requires b c.stored_ends-stored.ensures c.survey-seen.ensures w.if-stored-ends.false (rw w.kept-is at c.groups_between.ensures))
     ]

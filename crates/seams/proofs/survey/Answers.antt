@@ -68,8 +68,17 @@ pub loop-g-preserved : goal.loop-g-preserved
 loop-g-preserved c =
     let l = c.loop-g.invariant in
     let t = left_turn l.0 c.in-Some.ensures.steps in
-    let p = passed_more (rw t.place at l.1) t.group in
-    (left_next t, rw (c.ends_with-ends.ensures, c.start_with-place.ensures, c.counted-stored.ensures, c.counted-fresh.ensures, c.better-found.ensures, c.first_run-run.ensures) p, l.2)
+    let p = passed_more (rw t.place at l.1) t.group in (
+      left_next t,
+      record {
+        counted = rw c.ends_with-ends.ensures p.counted;
+        reached = rw c.start_with-place.ensures p.reached;
+        since_stored = rw c.counted-stored.ensures p.since_stored;
+        since_start = rw c.counted-fresh.ensures p.since_start;
+        measured = rw c.better-found.ensures (rw c.first_run-run.ensures p.measured);
+      },
+      l.2,
+    )
 
 pub returns : goal.returns
 returns c =
