@@ -21,8 +21,8 @@ pub struct Merged {
 }
 
 // The length of the longest Lyndon substring at i, from the entries of the table behind i, by comparison alone.
-// Inlined, since most places take a few steps alone: as a call `lyndon_array` takes up to half as much time again.
-#[inline(always)]
+// A hint to compile it into its callers, since most places take a step or two: as a call `lyndon_array` takes 1.3 to 1.7 times the time.
+#[inline]
 pub fn merge_at(s: &[u8], ranks: Ranking, table: &[u16], i: usize) -> Merged
     requires { (i < length s.now) × EntriesFrom (ranked ranks.list.now s.now) table.now (i + 1) }
     ensures { result.length ≡ longest_at (ranked ranks.entry.list.now s.now) i }
